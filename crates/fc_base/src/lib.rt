@@ -1,13 +1,28 @@
-// A library with one function.
+//! What every crate stands on: identifiers, result codes, want of memory and the faults of the outside, lists and texts
+//! that contracts see as lists, and the sources and sinks of bytes.
 #![tactic(auto)]
 
-ghost use Rattle.std.specs.Prelude.{◌≡◌};
-ghost use Rattle.fc_base.specs.Echo.{echo_of};
+mod boxed;
+mod code;
+mod compared;
+mod duplicate;
+mod faults;
+mod ids;
+mod list;
+mod memory_ends;
+mod sink;
+mod source;
+mod std_ends;
+mod text;
 
-// The `ensures` clause is the contract: what `echo` returns is `echo_of` of its argument, a definition
-// in `specs/Echo.antt`, which a caller's clause can cite too.
-pub fn echo(x: usize) -> usize
-    ensures { result ≡ echo_of x }
-{
-    x
-}
+pub use boxed::Boxed;
+pub use code::Code;
+pub use duplicate::Duplicate;
+pub use faults::{Memory, OpFault, Trouble, WriteFault};
+pub use ids::{CeId, Epoch, FeId, TxnId};
+pub use list::List;
+pub use memory_ends::{MemSink, MemSource, SureSink, SureSource};
+pub use sink::{Sink, write_all};
+pub use source::Source;
+pub use std_ends::{StdSink, StdSource};
+pub use text::{Octets, Text};
