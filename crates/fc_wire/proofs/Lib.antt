@@ -1,0 +1,4 @@
+pub mod Again
+pub mod Cutting
+pub mod Numbers
+pub mod Unique

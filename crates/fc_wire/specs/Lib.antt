@@ -1,0 +1,4 @@
+pub mod Bytes
+pub mod Flags
+pub mod Frames
+pub mod Header
