@@ -1,0 +1,8 @@
+pub mod Faults
+pub mod Hex
+pub mod Lending
+pub mod Run
+pub mod Show
+pub mod Splitting
+pub mod Stops
+pub mod Text

@@ -1,0 +1,127 @@
+-- What `show` writes of the bytes that it read, by how it ends. This profile's own.
+use Rattle.std.specs.Prelude.{◌≡◌, ◌≢◌, ◌⊎◌, ◌<◌, ◌≤◌, ◌-◌, ℕ, List, [], ◌∷◌, ◌++◌, length, take, Option, Some, None, Result, Ok, Err, ⊤}
+use Rattle.std.specs.List.{flat_map}
+use Rattle.std.specs.Io.KnownBytes.{Appends, Consumes, IsAtEnd}
+use Rattle.fc_base.specs.Causes.{Rose}
+use Rattle.fc_base.specs.Content.{AppendsFront}
+use Rattle.fc_wire.specs.declared.header.Header.{Header}
+use Rattle.fc_wire.specs.Frames.{joined, IsPartial, frame_len}
+use Rattle.fc_tool.specs.declared.faults.Fault.{Fault}
+use Rattle.fc_tool.specs.declared.show.Shown.{Shown}
+use Rattle.fc_tool.specs.declared.show.Shown.TheVariants.{Done, ReadFault, Refused, TooLong}
+use Rattle.fc_tool.specs.declared.stops.Stop.{Stop}
+use Rattle.fc_tool.specs.Faults.{IsHeartbeat, fault_of}
+use Rattle.fc_tool.specs.Stops.{stop_status}
+use Rattle.fc_tool.specs.Text.{heartbeat_text, refusal_text}
+
+-- each frame is a heartbeat
+abbrev pub AreHeartbeats : List Header → List (List ℕ) → Type 0
+AreHeartbeats [] [] = ⊤
+AreHeartbeats (h ∷ hs) (frame ∷ frames) = IsHeartbeat h frame × AreHeartbeats hs frames
+AreHeartbeats [] (frame ∷ frames) = ⊥
+AreHeartbeats (h ∷ hs) [] = ⊥
+
+-- the bytes are these heartbeats, and then the rest
+pub record Reaches (bytes : List ℕ) (hs : List Header) (rest : List ℕ) : Type 0 where
+  pub frames : List (List ℕ)
+  pub whole : bytes ≡ joined frames ++ rest
+  pub each : AreHeartbeats hs frames
+
+-- the lines of the heartbeats
+abbrev pub text_of : List Header → List ℕ
+text_of hs = flat_map heartbeat_text hs
+
+-- what is written of a frame, or of a rest, that stands at a place of the input
+abbrev pub IsTextOf : ℕ → List ℕ → List ℕ → Type 0
+IsTextOf place frame text =
+    ((h : Header) × IsHeartbeat h frame × (text ≡ heartbeat_text h))
+    ⊎ ((fault : Fault) × (fault_of frame ≡ Some fault) × (text ≡ refusal_text place fault))
+
+-- the next bytes that are looked at: a whole frame, or at the end of the input all that is left
+abbrev pub IsNext : Type 0 → List ℕ → List ℕ → Type 0
+IsNext at_end rest frame =
+    ((frame_len rest ≤ length rest) × (frame ≡ take (frame_len rest) rest))
+    ⊎ (at_end × IsPartial rest × (rest ≢ []) × (frame ≡ rest))
+
+-- nothing, or what is written of the next bytes
+abbrev pub IsNextText : Type 0 → ℕ → List ℕ → List ℕ → Type 0
+IsNextText at_end place rest text =
+    (text ≡ []) ⊎ ((frame : List ℕ) × IsNext at_end rest frame × IsTextOf place frame text)
+
+-- The writing stopped: lines of the heartbeats at the front of the bytes, which end at a place of the input, and a front
+-- of what comes next.
+abbrev pub StoppedAt : Type 0 → ℕ → List ℕ → Option (List ℕ) → Option (List ℕ) → Type 0
+StoppedAt at_end fed bytes old new =
+    (hs : List Header) × (rest : List ℕ) × (text : List ℕ) × Reaches bytes hs rest
+    × IsNextText at_end (fed - length rest) rest text × AppendsFront old new (text_of hs ++ text)
+
+-- The whole frames at the front of the bytes, which end at a place of the input, were shown up to the first that is
+-- refused; so many bytes are left where none is.
+abbrev pub PieceEnds : ℕ → List ℕ → List ℕ → Result (Option Fault) Stop → Option (List ℕ) → Option (List ℕ) → Type 0
+PieceEnds fed bytes left (Ok None) old new =
+    (hs : List Header) × Reaches bytes hs left × IsPartial left × Appends old new (text_of hs)
+PieceEnds fed bytes left (Ok (Some fault)) old new =
+    (hs : List Header) × (rest : List ℕ) × Reaches bytes hs rest × (frame_len rest ≤ length rest)
+    × (fault_of (take (frame_len rest) rest) ≡ Some fault) × Appends old new (text_of hs ++ refusal_text (fed - length rest) fault)
+PieceEnds fed bytes left (Err stop) old new = StoppedAt ⊥ fed bytes old new
+
+-- What was left at the end of the input, at a place of it, was refused where it was something.
+abbrev pub RestEnds : ℕ → List ℕ → Result Shown Stop → Option (List ℕ) → Option (List ℕ) → Type 0
+RestEnds place rest (Ok Done) old new = (rest ≡ []) × Appends old new []
+RestEnds place rest (Ok Refused) old new =
+    (rest ≢ []) × (fault : Fault) × (fault_of rest ≡ Some fault) × Appends old new (refusal_text place fault)
+RestEnds place rest (Ok ReadFault) old new = ⊥
+RestEnds place rest (Ok TooLong) old new = ⊥
+RestEnds place rest (Err stop) old new =
+    (rest ≢ []) × (fault : Fault) × (fault_of rest ≡ Some fault) × AppendsFront old new (refusal_text place fault)
+
+-- Where `show` ends so, these bytes were read, of which at most so many are looked at, and that was written.
+-- `left` is what the source has left.
+abbrev pub Ends : ℕ → Shown → List ℕ → Option (List ℕ) → Option (List ℕ) → Option (List ℕ) → Type 0
+-- the input is heartbeats, and no more
+Ends limit Done bytes left old new =
+    IsAtEnd left × (length bytes ≤ limit) × (hs : List Header) × Reaches bytes hs [] × Appends old new (text_of hs)
+-- what was read is heartbeats and less than a frame
+Ends limit ReadFault bytes left old new =
+    (length bytes ≤ limit) × (hs : List Header) × (rest : List ℕ) × Reaches bytes hs rest × IsPartial rest × Appends old new (text_of hs)
+-- the first bytes that no heartbeat is
+Ends limit Refused bytes left old new =
+    (hs : List Header) × (rest : List ℕ) × (frame : List ℕ) × (fault : Fault) × Reaches (take limit bytes) hs rest
+    × IsNext (IsAtEnd left × (length bytes ≤ limit)) rest frame × (fault_of frame ≡ Some fault)
+    × Appends old new (text_of hs ++ refusal_text (length (take limit bytes) - length rest) fault)
+-- more came than is looked at, and what is looked at is heartbeats and less than a frame
+Ends limit TooLong bytes left old new =
+    (limit < length bytes) × (hs : List Header) × (rest : List ℕ) × Reaches (take limit bytes) hs rest × IsPartial rest × Appends old new (text_of hs)
+
+-- the same, where the writing may have stopped
+abbrev pub EndsSo : ℕ → Result Shown Stop → List ℕ → Option (List ℕ) → Option (List ℕ) → Option (List ℕ) → Type 0
+EndsSo limit (Ok shown) bytes left old new = Ends limit shown bytes left old new
+EndsSo limit (Err stop) bytes left old new =
+    StoppedAt (IsAtEnd left × (length bytes ≤ limit)) (length (take limit bytes)) (take limit bytes) old new
+
+-- the same with the bytes that the source lost
+abbrev pub ShowEnds : ℕ → Result Shown Stop → Option (List ℕ) → Option (List ℕ) → Option (List ℕ) → Option (List ℕ) → Type 0
+ShowEnds limit how before left old new = (bytes : List ℕ) × Consumes before left bytes × EndsSo limit how bytes left old new
+
+-- the count of the source; the writing may stop after a read has failed
+abbrev pub SourceCount : Result Shown Stop → ℕ → ℕ → Type 0
+SourceCount (Ok Done) before now = now ≡ before
+SourceCount (Ok ReadFault) before now = Rose before now
+SourceCount (Ok Refused) before now = now ≡ before
+SourceCount (Ok TooLong) before now = now ≡ before
+SourceCount (Err stop) before now = (now ≡ before) ⊎ Rose before now
+
+-- the endings that tell what the input is
+abbrev pub IsVerdict : Shown → Type 0
+IsVerdict Done = ⊤
+IsVerdict Refused = ⊤
+IsVerdict TooLong = ⊤
+IsVerdict ReadFault = ⊥
+
+-- the status of each ending
+abbrev pub status_of : Result Shown Stop → ℕ
+status_of (Ok Done) = 0
+status_of (Ok ReadFault) = 2
+status_of (Ok Refused) = 6
+status_of (Ok TooLong) = 12
+status_of (Err stop) = stop_status stop

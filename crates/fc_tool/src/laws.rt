@@ -1,0 +1,37 @@
+// Laws of frames, of what is written of them, and of how the input ends.
+ghost use Rattle.std.specs.Prelude.{◌≡◌, ◌≤◌, ◌⊎◌, List, ℕ, Option, Some, Ok, ◌++◌, length};
+ghost use Rattle.std.specs.List.{AllByRecursion};
+ghost use Rattle.fc_wire.specs.declared.header.Header.{Header};
+ghost use Rattle.fc_wire.specs.Frames.{Frames, IsFrame, IsPartial, frame_len, joined};
+ghost use Rattle.fc_tool.specs.declared.faults.Fault.{Fault};
+ghost use Rattle.fc_tool.specs.declared.show.Shown.{Shown};
+ghost use Rattle.fc_tool.specs.Faults.{IsHeartbeat, fault_of};
+ghost use Rattle.fc_tool.specs.Show.{AreHeartbeats, IsVerdict, ShowEnds, text_of};
+ghost use Rattle.fc_tool.specs.Splitting.{Call, after_calls, fed, unfed};
+
+/// Bytes that are a frame, or less, are a heartbeat or have exactly one fault, and never both.
+pub fn frame_is_judged_once()
+    ensures either { (bytes : List ℕ) → length bytes ≤ frame_len bytes →
+        ((h : Header) × IsHeartbeat h bytes) ⊎ ((fault : Fault) × (fault_of bytes ≡ Some fault)) }
+    ensures never_both { (bytes : List ℕ) (h : Header) (fault : Fault) → IsHeartbeat h bytes → fault_of bytes ≡ Some fault → ⊥ }
+{}
+
+/// Whatever pieces a stream is fed in, and whenever frames are asked for: what was taken are the first frames of the
+/// whole stream, the rest is what stands after them, and where no whole frame is left these are all its frames.
+pub fn any_pieces()
+    ensures taken { (calls : List Call) → (fed calls ≡ joined (after_calls unfed calls).taken ++ (after_calls unfed calls).rest)
+        × AllByRecursion IsFrame (after_calls unfed calls).taken }
+    ensures all { (calls : List Call) → IsPartial (after_calls unfed calls).rest →
+        Frames (fed calls) (after_calls unfed calls).taken (after_calls unfed calls).rest }
+{}
+
+/// Heartbeats of the same frames have the same lines.
+pub fn text_is_unique()
+    ensures { (hs ks : List Header) (frames : List (List ℕ)) → AreHeartbeats hs frames → AreHeartbeats ks frames → text_of hs ≡ text_of ks }
+{}
+
+/// A known input has one ending of those that tell what it is: it is messages, a frame of it is none, or it is too long.
+pub fn input_ends_once()
+    ensures { (e f : Shown) (limit : ℕ) (bytes : List ℕ) (l k o p n m : Option (List ℕ)) → IsVerdict e → IsVerdict f
+        → ShowEnds limit (Ok e) (Some bytes) l o n → ShowEnds limit (Ok f) (Some bytes) k p m → e ≡ f }
+{}

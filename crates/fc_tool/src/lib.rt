@@ -1,0 +1,22 @@
+//! What the program `forces` does, over the source and the sink that it is handed.
+#![tactic(auto)]
+
+mod command;
+mod digits;
+mod faults;
+mod frames;
+mod laws;
+mod line;
+mod show;
+mod splitter;
+mod status;
+mod stops;
+#[cfg(test)]
+mod tests;
+
+pub use command::run;
+pub use faults::{Fault, Reason};
+pub use laws::{any_pieces, frame_is_judged_once, input_ends_once, text_is_unique};
+pub use show::Shown;
+pub use splitter::Splitter;
+pub use stops::Stop;

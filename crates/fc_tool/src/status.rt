@@ -1,0 +1,22 @@
+// The statuses of the program.
+
+/// The input was read to its end, and all was written.
+pub const DONE: u8 = 0;
+
+/// The words are no command.
+pub const NO_COMMAND: u8 = 1;
+
+/// The input can't be read.
+pub const READ_FAULT: u8 = 2;
+
+/// The output can't be written.
+pub const WRITE_FAULT: u8 = 3;
+
+/// The input has a frame that is no message, or ends within a frame.
+pub const NO_MESSAGE: u8 = 6;
+
+/// There was no memory.
+pub const NO_MEMORY: u8 = 9;
+
+/// The input is longer than is read.
+pub const TOO_LONG: u8 = 12;

@@ -1,0 +1,292 @@
+ghost use Rattle.std.specs.Prelude.{ℕ, None};
+
+use crate::run;
+use crate::splitter::Splitter;
+use fc_base::{MemSink, MemSource, Sink, Source, SureSink, SureSource, Trouble};
+use std::alloc::Global;
+use std::test::Fail;
+
+const BEAT: [u8; 24] = [
+    0x10, 0x0f, 0, 6, 0x40, 0, 0, 1, 0, 0, 0, 2, 0, 0, 0, 0, 0, 0, 0, 0, 0, 0, 0, 0,
+];
+
+const LINE: &str = "Heartbeat from=40000001 to=00000002 corr=0000000000000000 flags=00000000\n";
+
+fn words(alloc: Global, line: &str) -> Result<Vec<String>, Fail> {
+    let mut words = Vec::new(alloc);
+    for word in line.split(' ') {
+        words.push(String::from_str(alloc, word)?)?;
+    }
+    Ok(words)
+}
+
+fn beats(alloc: Global, count: usize) -> Result<Vec<u8>, Fail> {
+    let mut bytes = Vec::new(alloc);
+    for _ in 0..count {
+        bytes.extend_from_slice(&BEAT)?;
+    }
+    Ok(bytes)
+}
+
+fn lines(alloc: Global, count: usize, last: &str) -> Result<String, Fail> {
+    let mut text = String::new(alloc);
+    for _ in 0..count {
+        text.push_str(LINE)?;
+    }
+    text.push_str(last)?;
+    Ok(text)
+}
+
+// The status of `show` over these bytes in pieces, and what it wrote.
+fn shown(alloc: Global, bytes: Vec<u8>, piece: usize) -> Result<(u8, Vec<u8>), Fail> {
+    let words = words(alloc, "show")?;
+    let mut input = SureSource::new(bytes, piece.max(1));
+    let mut out = SureSink::new(alloc);
+    let status = run(alloc, words.as_slice(), &mut input, &mut out);
+    Ok((status, Vec::from_slice(alloc, out.bytes())?))
+}
+
+#[test]
+fn an_empty_input_writes_nothing(rt: HostRuntime) -> Result<(), Fail> {
+    let alloc = rt.alloc();
+    let (status, text) = shown(alloc, Vec::new(alloc), 4096)?;
+    assert_eq!(rt; status, 0);
+    assert_eq!(rt; text.len(), 0);
+    Ok(())
+}
+
+#[test]
+fn a_heartbeat_is_shown_in_whatever_pieces_it_comes(rt: HostRuntime) -> Result<(), Fail> {
+    let alloc = rt.alloc();
+    for piece in [1, 5, 23, 24, 65_536] {
+        let (status, text) = shown(alloc, beats(alloc, 1)?, piece)?;
+        assert_eq!(rt; status, 0, "in pieces of {piece}");
+        assert_eq!(rt; text.as_slice(), LINE.as_bytes(), "in pieces of {piece}");
+    }
+    Ok(())
+}
+
+#[test]
+fn every_field_is_shown(rt: HostRuntime) -> Result<(), Fail> {
+    let alloc = rt.alloc();
+    let bytes = [
+        0x1f, 0x0f, 0, 6, 0x4a, 0xbc, 0xde, 0xf1, 0x3f, 0xff, 0xff, 0xff, 0xfe, 0xdc, 0xba, 0x98,
+        0x76, 0x54, 0x32, 0x10, 0xff, 0xff, 0xff, 0xff,
+    ];
+    let (status, text) = shown(alloc, Vec::from_slice(alloc, &bytes)?, 65_536)?;
+    assert_eq!(rt; status, 0);
+    assert_eq!(rt;
+        text.as_slice(),
+        b"Heartbeat from=4ABCDEF1 to=3FFFFFFF corr=FEDCBA9876543210 flags=F8F80000\n".as_slice()
+    );
+    Ok(())
+}
+
+#[test]
+fn other_words_are_no_command(rt: HostRuntime) -> Result<(), Fail> {
+    let alloc = rt.alloc();
+    for line in ["", "frob", "show x", "Show", "-show", "--help"] {
+        let words = words(alloc, line)?;
+        let mut input = SureSource::new(beats(alloc, 1)?, 24);
+        let mut out = SureSink::new(alloc);
+        assert_eq!(rt;
+            run(alloc, words.as_slice(), &mut input, &mut out),
+            1,
+            "{line}"
+        );
+        assert_eq!(rt; out.bytes(), b"usage\n".as_slice(), "{line}");
+    }
+    let mut input = SureSource::new(Vec::new(alloc), 1);
+    let mut out = SureSink::new(alloc);
+    let none: Vec<String> = Vec::new(alloc);
+    assert_eq!(rt; run(alloc, none.as_slice(), &mut input, &mut out), 1);
+    assert_eq!(rt; out.bytes(), b"usage\n".as_slice());
+    Ok(())
+}
+
+#[test]
+fn the_first_refusal_is_written_with_its_place(rt: HostRuntime) -> Result<(), Fail> {
+    let alloc = rt.alloc();
+    let cut = Vec::from_slice(alloc, &BEAT[..23])?;
+    let (status, text) = shown(alloc, cut, 4096)?;
+    assert_eq!(rt; status, 6);
+    assert_eq!(rt; text.as_slice(), b"refused 0 truncated\n".as_slice());
+    let mut more = beats(alloc, 1)?;
+    more.push(0x10)?;
+    let (status, text) = shown(alloc, more, 4096)?;
+    assert_eq!(rt; status, 6);
+    assert_eq!(rt;
+        text.as_slice(),
+        lines(alloc, 1, "refused 24 truncated\n")?.as_bytes()
+    );
+    // One byte is changed in the second of three heartbeats, and so the third is not looked at.
+    for (at, byte, line) in [
+        (0usize, 0x20, "refused 24 version\n"),
+        (3, 5, "refused 26 short-length\n"),
+        (1, 1, "refused 25 not-built\n"),
+        (3, 7, "refused 25 not-built\n"),
+        (2, 1, "refused 24 truncated\n"),
+    ] {
+        let mut bytes = beats(alloc, 3)?;
+        let place = at.saturating_add(24);
+        assert!(rt; place < bytes.len());
+        bytes[place] = byte;
+        let (status, text) = shown(alloc, bytes, 4096)?;
+        assert_eq!(rt; status, 6, "{line}");
+        assert_eq!(rt;
+            text.as_slice(),
+            lines(alloc, 1, line)?.as_bytes(),
+            "{line}"
+        );
+    }
+    Ok(())
+}
+
+#[test]
+fn each_call_of_the_sink_fails_in_turn(rt: HostRuntime) -> Result<(), Fail> {
+    let alloc = rt.alloc();
+    let words = words(alloc, "show")?;
+    // Three pieces of one heartbeat, so three writes, and a flush.
+    for call in 1u64..6 {
+        let mut failing = Vec::new(alloc);
+        failing.push(call)?;
+        let mut input = SureSource::new(beats(alloc, 3)?, 24);
+        let mut out = MemSink::new(alloc, failing);
+        let status = run(alloc, words.as_slice(), &mut input, &mut out);
+        assert_eq!(rt; status, if call < 5 { 3 } else { 0 }, "at {call}");
+        let whole = if call < 4 { call.saturating_sub(1) } else { 3 };
+        assert_eq!(rt;
+            out.bytes(),
+            lines(alloc, whole as usize, "")?.as_bytes(),
+            "at {call}"
+        );
+    }
+    Ok(())
+}
+
+#[test]
+fn each_call_of_the_source_fails_in_turn(rt: HostRuntime) -> Result<(), Fail> {
+    let alloc = rt.alloc();
+    let words = words(alloc, "show")?;
+    // Three pieces of one heartbeat and the end are four reads.
+    for call in 1u64..6 {
+        let mut failing = Vec::new(alloc);
+        failing.push(call)?;
+        let mut input = MemSource::new(beats(alloc, 3)?, 24, failing);
+        let mut out = SureSink::new(alloc);
+        let status = run(alloc, words.as_slice(), &mut input, &mut out);
+        assert_eq!(rt; status, if call < 5 { 2 } else { 0 }, "at {call}");
+        let whole = if call < 4 { call.saturating_sub(1) } else { 3 };
+        assert_eq!(rt;
+            out.bytes(),
+            lines(alloc, whole as usize, "")?.as_bytes(),
+            "at {call}"
+        );
+    }
+    Ok(())
+}
+
+// So many bytes of heartbeats, one after the other, which nobody stores.
+#[derive(Drop)]
+struct Endless {
+    left: usize,
+    at: usize,
+}
+
+impl Source for Endless {
+    ghost left = { λ _. None };
+
+    ghost faults = { λ _. 0 };
+
+    fn read(&mut self, into: &mut [u8]) -> Result<usize, Trouble> {
+        let count = into.len().min(self.left);
+        self.left -= count;
+        for byte in into[..count].iter_mut() {
+            let at = self.at % 24;
+            *byte = BEAT[at];
+            self.at = (at + 1) % 24;
+        }
+        Ok(count)
+    }
+}
+
+// Counts what is written, and keeps the last bytes of it.
+#[derive(Drop)]
+struct Tally {
+    bytes: u64,
+    writes: u64,
+    last: Vec<u8>,
+}
+
+impl Sink for Tally {
+    ghost written = { λ _. None };
+
+    ghost flushed = { λ _. 0 };
+
+    ghost faults = { λ _. 0 };
+
+    fn write(&mut self, piece: &[u8]) -> Result<usize, Trouble> {
+        self.bytes = self.bytes.saturating_add(piece.len() as u64);
+        self.writes = self.writes.saturating_add(1);
+        self.last.clear();
+        let from = piece.len().saturating_sub(64);
+        self.last.extend_from_slice(&piece[from..])?;
+        Ok(piece.len())
+    }
+
+    fn flush(&mut self) -> Result<(), Trouble> {
+        Ok(())
+    }
+}
+
+#[test]
+fn so_many_bytes_are_looked_at_and_no_more(rt: HostRuntime) -> Result<(), Fail> {
+    let alloc = rt.alloc();
+    let words = words(alloc, "show")?;
+    // The limit cuts a heartbeat after its first 16 bytes, and 2,796,202 stand in front of it.
+    for (more, status, last) in [
+        (0usize, 6, "refused 67108848 truncated\n"),
+        (1, 12, LINE),
+        (1_000_000, 12, LINE),
+    ] {
+        let mut input = Endless {
+            left: more.saturating_add(67_108_864),
+            at: 0,
+        };
+        let mut out = Tally {
+            bytes: 0,
+            writes: 0,
+            last: Vec::new(alloc),
+        };
+        assert_eq!(rt; run(alloc, words.as_slice(), &mut input, &mut out), status);
+        let refusal = if status == 6 { last.len() as u64 } else { 0 };
+        assert_eq!(rt; out.bytes, 204_122_746u64.saturating_add(refusal));
+        assert!(rt;
+            out.last
+                .as_slice()
+                .ends_with(&last.as_bytes()[last.len().saturating_sub(64)..])
+        );
+        // A read of 64 KiB is one write, and the refusal one more.
+        assert!(rt; out.writes <= 1025);
+    }
+    Ok(())
+}
+
+#[test]
+fn a_splitter_lends_the_frames_of_the_stream(rt: HostRuntime) -> Result<(), Fail> {
+    let alloc = rt.alloc();
+    let mut splitter = Splitter::new(alloc);
+    assert!(rt; splitter.next().is_none());
+    let bytes = beats(alloc, 2)?;
+    assert_eq!(rt; bytes.len(), 48);
+    splitter.feed(&bytes[..23])?;
+    assert!(rt; splitter.next().is_none());
+    assert_eq!(rt; splitter.rest().len(), 23);
+    splitter.feed(&bytes[23..47])?;
+    assert_eq!(rt; splitter.next().ok_or("a frame")?, BEAT.as_slice());
+    assert!(rt; splitter.next().is_none());
+    splitter.feed(&bytes[47..])?;
+    assert_eq!(rt; splitter.next().ok_or("a frame")?, BEAT.as_slice());
+    assert_eq!(rt; splitter.rest().len(), 0);
+    Ok(())
+}
