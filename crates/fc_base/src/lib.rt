@@ -5,6 +5,7 @@
 mod boxed;
 mod code;
 mod compared;
+mod digits;
 mod duplicate;
 mod faults;
 mod ids;
@@ -13,10 +14,13 @@ mod memory_ends;
 mod sink;
 mod source;
 mod std_ends;
+#[cfg(test)]
+mod tests;
 mod text;
 
 pub use boxed::Boxed;
 pub use code::Code;
+pub use digits::{eight_digits, sixteen_digits};
 pub use duplicate::Duplicate;
 pub use faults::{Memory, OpFault, Trouble, WriteFault};
 pub use ids::{CeId, Epoch, FeId, TxnId};

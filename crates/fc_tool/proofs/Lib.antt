@@ -1,4 +1,3 @@
-pub mod Hexes
 pub mod Holding
 pub mod Judged
 pub mod Reaching

@@ -1,5 +1,4 @@
 pub mod Faults
-pub mod Hex
 pub mod Lending
 pub mod Run
 pub mod Show

@@ -1,6 +1,6 @@
 -- What is written.
 use Rattle.std.specs.Prelude.{ℕ, ◌+◌, List, ◌++◌, codes, decimal}
-use Rattle.fc_tool.specs.Hex.{hex}
+use Rattle.fc_base.specs.Hex.{hex}
 use Rattle.fc_wire.specs.declared.header.Header.{Header}
 use Rattle.fc_wire.specs.Header.{word_of}
 use Rattle.fc_tool.specs.declared.faults.Fault.{Fault}

@@ -2,7 +2,6 @@
 #![tactic(auto)]
 
 mod command;
-mod digits;
 mod faults;
 mod frames;
 mod laws;

@@ -1,5 +1,5 @@
 use Rattle.std.proofs.Common.{refl}
-use Rattle.fc_tool.proofs.Hexes.{hex_8, hex_16}
+use Rattle.fc_base.proofs.Hexes.{hex_8, hex_16}
 use Rattle.fc_tool.specs.Text.{heartbeat_text}
 use Rattle.fc_wire.specs.Header.{word_of}
 use Rattle.fc_tool.proofs.line.heartbeat_line.Goals as goal
