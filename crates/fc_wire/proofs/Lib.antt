@@ -1,4 +1,10 @@
 pub mod Again
 pub mod Cutting
+pub mod Ended
+pub mod IlvSpelled
+pub mod ItemLaws
 pub mod Numbers
+pub mod Spelled
+pub mod Stepping
+pub mod Tiled
 pub mod Unique
