@@ -1,0 +1,4 @@
+pub mod Effects
+pub mod Maps
+pub mod Moments
+pub mod Scans

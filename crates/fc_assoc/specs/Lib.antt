@@ -1,0 +1,2 @@
+pub mod Associations
+pub mod Places
