@@ -1,0 +1,83 @@
+// The hub over TCP. What the network does no contract can say: this is trusted, and tested.
+ghost use Rattle.std.specs.Prelude.{◌≡◌, ℕ, None, IfOk};
+
+use crate::listening::Listening;
+use crate::{Hub, HubEvent};
+use fc_base::{Memory, Trouble};
+use std::alloc::Global;
+use std::net::Net;
+#[cfg(test)]
+use std::net::SocketAddr;
+use std::time::Clock;
+
+/// A hub over TCP that serves one connection at a time.
+///
+/// It binds its address at the first call of `next`, which tells a moment. From then on it accepts connections, one
+/// after the other: the k-th of them is the peer k. Where nothing has come for a second, neither a connection nor
+/// bytes, it tells the moment, so each call answers. A moment is the time of the machine's monotonic clock in
+/// milliseconds, and never goes back. Once as many connections as it was made for have closed, from either side, it
+/// tells the end.
+///
+/// A connection that the peer resets, or that the network gives up, has closed. Bytes that are sent to a peer that is
+/// not connected, or that has closed, are lost; a peer that takes no bytes for ten seconds is disconnected. What fails
+/// otherwise, as the binding of an address in use, is a fault of the hub, and is counted.
+#[derive(Drop)]
+pub struct TcpHub<R: Net> {
+    listening: Listening<R>,
+    faults: u64,
+}
+
+impl<R: Net + Clock + Drop> TcpHub<R> {
+    /// A hub that will listen at this address, a host and a port, for so many connections. Nothing is bound yet.
+    pub fn listen(
+        alloc: Global,
+        rt: R,
+        address: &str,
+        connections: u32,
+    ) -> Result<TcpHub<R>, Memory>
+        ensures { IfOk result (λ hub. hub.faults ≡ 0) }
+    {
+        let listening = Listening::new(alloc, rt, address, connections)?;
+        Ok(TcpHub {
+            listening,
+            faults: 0,
+        })
+    }
+
+    /// The address that is bound, once one is.
+    #[cfg(test)]
+    pub fn bound(&self) -> Option<SocketAddr> {
+        self.listening.bound()
+    }
+}
+
+impl<R: Net + Clock + Drop> Hub for TcpHub<R> {
+    ghost held = { λ _. None };
+
+    ghost faults = { λ s. s.faults };
+
+    fn next(&mut self) -> Result<HubEvent, Trouble> {
+        match self.listening.next() {
+            Err(Trouble::Failed) => {
+                self.faults = self.faults.saturating_add(1);
+                Err(Trouble::Failed)
+            }
+            answer => answer,
+        }
+    }
+
+    fn send(&mut self, peer: u32, bytes: &[u8]) -> Result<(), Trouble> {
+        match self.listening.send(peer, bytes) {
+            Err(Trouble::Failed) => {
+                self.faults = self.faults.saturating_add(1);
+                Err(Trouble::Failed)
+            }
+            answer => answer,
+        }
+    }
+
+    fn close(&mut self, peer: u32) -> Result<(), Trouble> {
+        self.listening.close(peer);
+        Ok(())
+    }
+}
