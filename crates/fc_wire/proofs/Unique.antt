@@ -1,5 +1,7 @@
--- The same bytes have one header.
-use Rattle.std.proofs.Common.{◌≡◌, ℕ, List, Bool, true, false, IsTrue, ◌↔◌, refl, sym, ◌∙◌}
+-- Bytes have exactly one header.
+use Rattle.std.proofs.Common.{◌≡◌, ℕ, ◌/◌, ◌%◌, ◌^◌, ◌==◌, List, length, slice_index, Bool, true, false, IsTrue, ◌↔◌, arith, refl, sym, ◌∙◌}
+use Rattle.std.proofs.lemmas.Bool.Decides.{nat_tests}
+use Rattle.fc_wire.specs.Bytes.{u16_at, u32_at, u64_at}
 use Rattle.fc_wire.specs.Flags.{FlagValues}
 use Rattle.fc_wire.specs.declared.header.Header.{Header}
 use Rattle.fc_wire.specs.Header.{IsHeader, HasFlags}
@@ -38,3 +40,32 @@ same_header h k bytes a b =
     let same : header_of h.kind h.words h.source h.dest h.corr h.flags ≡ header_of k.kind k.words k.source k.dest k.corr k.flags =
     rw (kind, words, source, dest, corr, flags) refl in
     same
+
+-- the flags of a word
+flags_exist : (word : ℕ) → (flags : FlagValues) × HasFlags flags word
+flags_exist word = (
+  flags_of (word / 2 ^ 30) (word / 2 ^ 27 % 8) (word / 2 ^ 22 % 4) (word / 2 ^ 21 % 2 == 1) (word / 2 ^ 19 % 4),
+  record {
+    acknowledgement = refl;
+    priority = refl;
+    mode = refl;
+    atomic = (λ t. grind (arith, nat_tests, t), λ e. grind (arith, nat_tests, e));
+    phase = refl;
+  },
+)
+
+pub header_exists : (bytes : List ℕ) → length bytes ≡ 24 → slice_index bytes 0 / 16 ≡ 1 → (h : Header) × IsHeader h bytes
+header_exists bytes size version =
+    let flags = flags_exist (u32_at bytes 20) in (
+      header_of (slice_index bytes 1) (u16_at bytes 2) (u32_at bytes 4) (u32_at bytes 8) (u64_at bytes 12) flags.0,
+      record {
+        size = size;
+        version = version;
+        kind = refl;
+        words = refl;
+        source = refl;
+        dest = refl;
+        correlator = refl;
+        flags = flags.1;
+      },
+    )

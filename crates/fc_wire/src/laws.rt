@@ -1,5 +1,5 @@
 // Laws of the header, of the frames of a stream, and of TLVs and ILVs.
-ghost use Rattle.std.specs.Prelude.{◌≡◌, ◌+◌, ◌++◌, ◌%◌, List, [], ℕ, length, Option, None};
+ghost use Rattle.std.specs.Prelude.{◌≡◌, ◌+◌, ◌++◌, ◌/◌, ◌%◌, List, [], ℕ, length, slice_index, Option, None};
 ghost use Rattle.std.specs.List.{flat_map, AllByRecursion};
 ghost use Rattle.fc_wire.specs.Bytes.{AreBytes};
 ghost use Rattle.fc_wire.specs.Tiling.{Tiling, tiling};
@@ -16,9 +16,10 @@ pub fn header_is_read_again()
     ensures { (h : Header) → InRange h → IsHeader h (header_bytes h) }
 {}
 
-/// The same 24 bytes have one header.
+/// 24 bytes whose version is 1 have exactly one header.
 pub fn header_is_unique()
-    ensures { (h k : Header) (bytes : List ℕ) → IsHeader h bytes → IsHeader k bytes → h ≡ k }
+    ensures one { (h k : Header) (bytes : List ℕ) → IsHeader h bytes → IsHeader k bytes → h ≡ k }
+    ensures some { (bytes : List ℕ) → length bytes ≡ 24 → slice_index bytes 0 / 16 ≡ 1 → (h : Header) × IsHeader h bytes }
 {}
 
 /// A stream of bytes is cut into frames and a rest in exactly one way.
