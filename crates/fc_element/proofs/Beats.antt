@@ -1,0 +1,52 @@
+-- The heartbeats to associations, one by one.
+use Rattle.std.proofs.Common.{◌≡◌, ◌≤◌, ◌<◌, ◌+◌, ℕ, List, [], ◌∷◌, ◌++◌, length, map, take, slice_get, refl, sym, ap, ◌∙◌, append_assoc, arith, Option, Some, None, ◌⊎◌, inl, inr}
+use Rattle.std.specs.Option.{option_map}
+use Rattle.std.proofs.lemmas.Option.{slice_get_within, get_or_from_slice_get, slice_get_cases, slice_get-map}
+use Rattle.std.proofs.lemmas.List.{take_more, take_all, length-map}
+use Rattle.std.specs.FinMap.{entries, len}
+use Rattle.fc_assoc.specs.Associations.{AssociationMap}
+use Rattle.fc_assoc.specs.declared.heard.Heard.{Heard}
+use Rattle.fc_element.specs.declared.input.Out.{Out}
+use Rattle.fc_element.specs.ElementMachine.{beats_of, heartbeat_of, out}
+
+abbrev beat : ℕ → ℕ × Heard → Out
+beat id pair = out pair.1.peer (heartbeat_of id pair.0)
+
+abbrev seen : ℕ × Heard → ℕ × ℕ
+seen pair = (pair.0, pair.1.peer)
+
+abbrev beat_to : ℕ → ℕ × ℕ → Out
+beat_to id pair = out pair.1 (heartbeat_of id pair.0)
+
+by_seen : (id : ℕ) (o : Option (ℕ × Heard)) (p : Option (ℕ × ℕ)) → p ≡ option_map seen o → option_map (beat_to id) p ≡ option_map (beat id) o
+by_seen id None p is = ap (option_map (beat_to id)) is
+by_seen id (Some pair) p is = ap (option_map (beat_to id)) is
+
+-- the heartbeat at a place, from what was seen there
+pub at_place : (id place : ℕ) (m : AssociationMap) (p : Option (ℕ × ℕ)) → p ≡ option_map seen (slice_get (entries m) place)
+    → option_map (beat_to id) p ≡ slice_get (beats_of id m) place
+at_place id place m p is = by_seen id (slice_get (entries m) place) p is ∙ sym (slice_get-map (beat id) (entries m) place)
+
+-- one more
+pub one_more : (beats before now : List Out) (place : ℕ) (next : Out) → Some next ≡ slice_get beats place → now ≡ before ++ take place beats
+    → now ++ next ∷ [] ≡ before ++ take (place + 1) beats
+one_more beats before now place next at so_far =
+    let within = slice_get_within beats place next (sym at) in
+    let more : take (place + 1) beats ≡ take place beats ++ next ∷ [] = take_more beats place next within ∙ ap (λ x. take place beats ++ x ∷ []) (get_or_from_slice_get beats place next next (sym at)) in
+    rw (more, so_far, append_assoc) refl
+
+-- none stands past the last
+pub none_past : (beats : List Out) (place : ℕ) → None ≡ slice_get beats place → length beats ≤ place
+none_past beats place none =
+    elim (slice_get_cases beats place).1 [
+      | inl (x, lt, some, same) ↦ absurd (let e : ◌≡◌ {A = Option Out} None (Some x) = none ∙ some in cc)
+      | inr (le, is) ↦ le
+    ]
+
+-- all of them
+pub all_sent : (beats before now : List Out) (place : ℕ) → length beats ≤ place → now ≡ before ++ take place beats → now ≡ before ++ beats
+all_sent beats before now place le is = is ∙ ap (λ l. before ++ l) (take_all place beats le)
+
+-- as many as there are associations
+pub beats_length : (id : ℕ) (m : AssociationMap) → length (beats_of id m) ≡ length (entries m)
+beats_length id m = length-map (entries m) (beat id)

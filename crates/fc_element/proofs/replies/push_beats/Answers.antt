@@ -1,0 +1,16 @@
+use Rattle.std.proofs.Common.{arith, ◌∙◌, sym}
+use Rattle.std.specs.FinMap.{len-entries}
+use Rattle.fc_element.proofs.Beats.{all_sent, beats_length, none_past, one_more}
+use Rattle.fc_element.proofs.replies.push_beats.Goals as goal
+
+pub loop-place-preserved : goal.loop-place-preserved
+loop-place-preserved c = record {
+  sent = c.push_reserved.ensures.items ∙ one_more _ _ _ _ _ c.in-Some.ensures c.loop-place.invariant.sent;
+  room = omega (arith, c.push_reserved.ensures.len, c.loop-place.invariant.room);
+  capacity = c.push_reserved.ensures.capacity ∙ c.loop-place.invariant.capacity;
+}
+
+pub returns : goal.returns
+returns c =
+    all_sent _ _ _ c.loop-place.place (omega (arith, len-entries c.args.associations.now, beats_length c.args.id c.args.associations.now, c.len-place-end.ensures.same, c.loop-place-test.false))
+    c.loop-place.invariant.sent

@@ -1,0 +1,2 @@
+pub mod ElementMachine
+pub mod ElementState

@@ -1,0 +1,22 @@
+// What an element takes and gives.
+use fc_msg::Message;
+
+/// What comes to an element. A peer is the number of a byte carrier.
+#[derive(Clone, Copy, Debug, PartialEq, Eq)]
+pub enum ElIn {
+    /// A peer was opened.
+    Opened(u32),
+    /// A message came from a peer.
+    Arrived(u32, Message),
+    /// A peer was closed.
+    Closed(u32),
+    /// It is this moment, in milliseconds.
+    Moment(u64),
+}
+
+/// A message to a peer.
+#[derive(Clone, Copy, Debug, PartialEq, Eq)]
+pub struct Out {
+    pub peer: u32,
+    pub message: Message,
+}

@@ -1,0 +1,105 @@
+// The messages that an element sends.
+ghost use Rattle.std.specs.Prelude.{◌≡◌, ◌≤◌, ◌<◌, ◌-◌, ◌+◌, [], ◌∷◌, ◌++◌, ℕ, map, length, slice_get, vec_len, vec_capacity, IfOk};
+ghost use Rattle.std.specs.FinMap.{entries};
+ghost use Rattle.fc_element.specs.ElementMachine.{answer_to, asking, beats_of, heartbeat_of, out, setup_of};
+
+use crate::Out;
+use fc_assoc::Associations;
+use fc_base::{CeId, FeId, List, Memory};
+use fc_msg::{Message, MsgBody};
+use fc_wire::Flags;
+use std::alloc::Global;
+
+/// The ID of all control elements (RFC 5810, section 6.1).
+const ALL_CES: u32 = 0xffff_fffd;
+
+/// Always acknowledge.
+pub const ALWAYS: u8 = 3;
+
+// Flags that ask for this acknowledgement and nothing else.
+fn asking(ack: u8) -> Flags
+    requires { ack < 4 }
+    ensures { result ≡ asking ack }
+{
+    Flags {
+        ack,
+        pri: 0,
+        em: 0,
+        at: false,
+        tp: 0,
+    }
+}
+
+/// The element asks to be associated.
+pub fn setup(id: FeId) -> Message
+    ensures { result ≡ setup_of id }
+{
+    Message {
+        source: id.get(),
+        dest: ALL_CES,
+        corr: 0,
+        flags: asking(ALWAYS),
+        body: MsgBody::Setup,
+    }
+}
+
+/// The answer to a heartbeat.
+pub fn answer(message: &Message) -> Message
+    ensures { result ≡ answer_to message.now }
+{
+    Message {
+        source: message.dest,
+        dest: message.source,
+        corr: message.corr,
+        flags: asking(0),
+        body: MsgBody::Heartbeat,
+    }
+}
+
+// A heartbeat to a control element.
+fn heartbeat(id: FeId, ce: CeId) -> Message
+    ensures { result ≡ heartbeat_of id ce }
+{
+    Message {
+        source: id.get(),
+        dest: ce.get(),
+        corr: 0,
+        flags: asking(0),
+        body: MsgBody::Heartbeat,
+    }
+}
+
+/// A list of one message to a peer.
+pub fn one(alloc: Global, peer: u32, message: Message) -> Result<List<Out>, Memory>
+    ensures { IfOk result (λ outs. outs ≡ out peer message ∷ []) }
+{
+    let mut outs = List::new(alloc);
+    outs.push(Out { peer, message })?;
+    Ok(outs)
+}
+
+// The heartbeat to the association at a place, if there is one.
+fn beat_at(id: FeId, associations: &Associations, place: usize) -> Option<Out>
+    ensures { result ≡ slice_get (beats_of id associations.now) place }
+{
+    match associations.entry(place) {
+        Some(seen) => Some(Out {
+            peer: seen.1,
+            message: heartbeat(id, seen.0),
+        }),
+        None => None,
+    }
+}
+
+/// Appends a heartbeat to each association, by rising ID. The list has room for as many as there can be.
+pub fn push_beats(id: FeId, associations: &Associations, outs: &mut Vec<Out>)
+    requires { vec_len outs.old + 64 ≤ vec_capacity outs.old }
+    ensures { outs.new.items ≡ outs.old.items ++ beats_of id associations.now }
+{
+    for place in 0..associations.len() {
+        match beat_at(id, associations, place) {
+            Some(out) => outs.push_reserved(out),
+            None => return,
+        }
+    }
+}
