@@ -1,3 +1,4 @@
+pub mod Components
 pub mod Ids
 pub mod TypeRules
 pub mod Types

@@ -1,7 +1,7 @@
 // Copies of what a maker declares.
 ghost use Rattle.std.specs.Prelude.{◌≡◌, IfOk};
 
-use crate::{Field, KeyDecl, Ty};
+use crate::{Class, Component, EventDecl, Field, KeyDecl, Ty};
 use fc_base::{Boxed, Duplicate, List, Memory};
 
 impl Duplicate for KeyDecl {
@@ -87,4 +87,39 @@ fn copy_fields(fields: &List<Field>) -> Result<List<Field>, Memory>
         others.push(copy_field(field)?)?;
     }
     Ok(others)
+}
+
+impl Duplicate for Component {
+    fn copy(&self) -> Result<Self, Memory> {
+        Ok(Component {
+            id: self.id,
+            name: self.name.copy()?,
+            ty: self.ty.copy()?,
+            access: self.access,
+            optional: self.optional,
+        })
+    }
+}
+
+impl Duplicate for EventDecl {
+    fn copy(&self) -> Result<Self, Memory> {
+        Ok(EventDecl {
+            id: self.id,
+            name: self.name.copy()?,
+            when: self.when,
+            target: self.target.copy()?,
+        })
+    }
+}
+
+impl Duplicate for Class {
+    fn copy(&self) -> Result<Self, Memory> {
+        Ok(Class {
+            id: self.id,
+            name: self.name.copy()?,
+            components: self.components.copy()?,
+            event_base: self.event_base,
+            events: self.events.copy()?,
+        })
+    }
 }
