@@ -4,6 +4,7 @@
 
 mod class;
 mod copies;
+mod depth;
 mod ids;
 mod rules;
 mod size;
