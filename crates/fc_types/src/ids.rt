@@ -35,8 +35,8 @@ pub fn are_distinct<T: Identified>(items: &[T]) -> bool
     true
 }
 
-// Whether an item has the ID.
-fn has_id<T: Identified>(items: &[T], id: u32) -> bool
+/// Whether an item has the ID.
+pub fn has_id<T: Identified>(items: &[T], id: u32) -> bool
     ensures { result ≡ list_any (λ x. id == x) (map T.id_of items.now) }
 {
     for item in items {

@@ -3,6 +3,7 @@
 #![tactic(auto)]
 
 mod class;
+mod classes;
 mod copies;
 mod depth;
 mod ids;

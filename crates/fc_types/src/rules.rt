@@ -155,8 +155,8 @@ fn are_keys(entry: &Ty, keys: &[KeyDecl]) -> bool
     true
 }
 
-// The fields of a struct, and none of another type.
-fn fields_of(ty: &Ty) -> &[Field]
+/// The fields of a struct, and none of another type.
+pub fn fields_of(ty: &Ty) -> &[Field]
     ensures { result.now ≡ spec.fields_of ty.now }
 {
     match ty {
