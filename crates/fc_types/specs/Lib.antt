@@ -1,5 +1,6 @@
 pub mod Classes
 pub mod Components
 pub mod Ids
+pub mod Libraries
 pub mod TypeRules
 pub mod Types

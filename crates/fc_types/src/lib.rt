@@ -2,15 +2,20 @@
 //! that is checked once, so that everything above may rely on its rules (RFC 5812, section 4).
 #![tactic(auto)]
 
+mod check;
 mod class;
 mod classes;
 mod copies;
 mod depth;
+mod fault;
 mod ids;
+mod library;
 mod rules;
 mod size;
 mod ty;
 
 pub use class::{Class, Component, EventDecl, When};
-pub use ids::{Identified, are_distinct, with_id};
+pub use fault::CheckFault;
+pub use ids::{Identified, are_distinct, has_id, with_id};
+pub use library::{Instances, Library};
 pub use ty::{Field, KeyDecl, Ty};

@@ -1,0 +1,128 @@
+// A library of classes, and the instances that an element has of them.
+ghost use Rattle.std.specs.Prelude.{◌≡◌, ◌≢◌, ◌∷◌, [], ◌++◌, Some, None, true, false, IfOk, OnOk, IfErr, IsTrue, map};
+ghost use Rattle.fc_types.specs.Libraries.{is_below, is_rising};
+ghost use Rattle.std.specs.List.Sorted.{IsPermutation};
+
+use crate::check::{are_known, class_fault};
+use crate::{CheckFault, Class};
+use fc_base::{Duplicate, List, Memory};
+use std::marker::Model;
+
+/// A library of classes, which contracts see as their list. Each one keeps every rule of a declared class, and no two have
+/// one ID.
+#[derive(Debug, Drop)]
+pub struct Library {
+    classes: List<Class>,
+}
+
+impl Model for Library {
+    ghost use Rattle.std.specs.Prelude.{List};
+    ghost use Rattle.fc_types.specs.declared.class.Class.{Class};
+
+    ghost Value = { List Class };
+
+    ghost use Rattle.fc_types.specs.contracts.class.Class as contracts;
+    ghost use Rattle.std.specs.Coded.{codes};
+
+    ghost coded = { Prim.hlevel (codes, contracts.the_row.coded) };
+
+    ghost use Rattle.fc_types.specs.Libraries.{IsLibrary};
+
+    ghost view = { λ s. s.classes };
+
+    ghost invariant = { λ s. IsLibrary s.classes };
+}
+
+/// The instances of classes, each one its class and its ID, which contracts see as their list. They rise by class, and then
+/// by ID.
+#[derive(Debug, Drop)]
+pub struct Instances {
+    pairs: List<(u32, u32)>,
+}
+
+impl Model for Instances {
+    ghost use Rattle.std.specs.Prelude.{List, ℕ};
+
+    ghost Value = { List (ℕ × ℕ) };
+
+    ghost use Rattle.fc_types.specs.Libraries.{AreRising};
+
+    ghost view = { λ s. s.pairs };
+
+    ghost invariant = { λ s. AreRising s.pairs };
+}
+
+impl Library {
+    ghost use Rattle.fc_types.specs.Libraries.{IsLibrary};
+
+    /// The classes.
+    pub fn classes(&self) -> &[Class]
+        ensures same { result.now ≡ self.now }
+        ensures rules { IsLibrary self.now }
+    {
+        self.classes.as_slice()
+    }
+}
+
+impl Instances {
+    ghost use Rattle.fc_types.specs.Ids.{is_distinct};
+    ghost use Rattle.fc_types.specs.Libraries.{AreRising, same_instance};
+    ghost use Rattle.fc_types.specs.declared.fault.CheckFault.TheVariants as fault;
+
+    // The pairs in their order, where no two are the same.
+    fn of(pairs: Vec<(u32, u32)>) -> Result<Instances, CheckFault>
+        ensures same { IfOk result (λ instances. IsPermutation pairs.items instances) }
+        ensures distinct { OnOk result (is_distinct same_instance pairs.items ≡ true) }
+        ensures repeated { IfErr result (λ e. e ≢ fault.Memory → e ≡ fault.DuplicateId) }
+        ensures repeats { IfErr result (λ e. e ≢ fault.Memory → is_distinct same_instance pairs.items ≡ false) }
+    {
+        let mut pairs = pairs;
+        pairs.sort()?;
+        if !are_rising(&pairs) {
+            return Err(CheckFault::DuplicateId);
+        }
+        Ok(Instances {
+            pairs: List::from_vec(pairs),
+        })
+    }
+
+    /// The pairs of a class and an ID, which rise by class and then by ID.
+    pub fn pairs(&self) -> &[(u32, u32)]
+        ensures same { result.now ≡ self.now }
+        ensures rising { AreRising self.now }
+    {
+        self.pairs.as_slice()
+    }
+}
+
+impl Duplicate for Library {
+    fn copy(&self) -> Result<Self, Memory> {
+        Ok(Library {
+            classes: self.classes.copy()?,
+        })
+    }
+}
+
+// Whether each pair is below the next one.
+fn are_rising(pairs: &[(u32, u32)]) -> bool
+    ensures { result ≡ is_rising pairs.now }
+{
+    let mut rest = pairs;
+    while let [first, others @ ..] = rest {
+        if !begin_above(others, *first) {
+            return false;
+        }
+        rest = others;
+    }
+    true
+}
+
+// Whether the first of the pairs, if any, is above this one.
+fn begin_above(pairs: &[(u32, u32)], pair: (u32, u32)) -> bool
+    ensures { result ≡ is_below pair pairs.now }
+{
+    match pairs {
+        [] => true,
+        [first, ..] => pair < *first,
+    }
+}
