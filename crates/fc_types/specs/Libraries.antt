@@ -1,6 +1,6 @@
 -- A library of classes with the instances that an element has of them, and the faults by which a declaration is none (this
 -- profile's own).
-use Rattle.std.specs.Prelude.{ℕ, ◌≤◌, ◌==◌, nat_eq, nat_le, Bool, true, false, not, ◌&&◌, List, [], ◌∷◌, ◌++◌, map, length, count_by, Option, Some, None, if◌then◌else◌, IsTrue, ◌≡◌}
+use Rattle.std.specs.Prelude.{ℕ, ◌≤◌, ◌==◌, nat_eq, nat_le, Bool, true, false, not, ◌&&◌, List, [], ◌∷◌, ◌++◌, map, length, count_by, Option, Some, None, if◌then◌else◌, ◌≡◌}
 use Rattle.std.specs.List.{list_all, list_any}
 use Rattle.std.specs.List.Sorted.{IsStrictlySortedBy}
 use Rattle.std.specs.Ordering.{nat_cmp, ordering_then, is_lt}
@@ -29,6 +29,10 @@ is_built_in id = list_any (λ taken. id == taken) built_in_ids
 abbrev pub is_own : Class → Bool
 is_own class = not (is_built_in class.id)
 
+-- the instances of the built-in classes: one of each, with ID 1
+abbrev pub built_in_instances : List (ℕ × ℕ)
+built_in_instances = (1, 1) ∷ (2, 1) ∷ (126977, 1) ∷ []
+
 -- two instances of one class with one ID
 abbrev pub same_instance : ℕ × ℕ → ℕ × ℕ → Bool
 same_instance p q = (p.0 == q.0) && (p.1 == q.1)
@@ -39,7 +43,7 @@ is_known classes p = list_any (λ id. p.0 == id) (map class_id classes)
 
 -- the class of each instance is in the library
 abbrev pub AreKnown : List Class → List (ℕ × ℕ) → Type 0
-AreKnown classes pairs = IsTrue (list_all (is_known classes) pairs)
+AreKnown classes pairs = list_all (is_known classes) pairs ≡ true
 
 -- instances go by their class, and within it by their ID
 abbrev pub pair_cmp : ℕ × ℕ → ℕ × ℕ → Ordering
@@ -91,9 +95,13 @@ first_broken (rule ∷ more) = if rule.0 then first_broken more else Some rule.1
 unfoldable pub first_fault : List Class → List (ℕ × ℕ) → Option CheckFault
 first_fault classes pairs = first_broken (class_rules classes pairs ++ instance_rules classes pairs)
 
+-- each class keeps each rule of a class
+abbrev pub KeepRules : List Class → Type 0
+KeepRules classes = (rule : ClassRule) → list_all (class_keeps rule) classes ≡ true
+
 -- What holds of the classes of each library, with the built-in classes or without them: at most 256 others, none with the
 -- ID of another, and each one keeps each rule of a class.
 pub record IsLibrary (classes : List Class) : Type 0 where
   pub few : count_by is_own classes ≤ 256
   pub distinct : is_distinct nat_eq (map class_id classes) ≡ true
-  pub kept : (rule : ClassRule) → list_all (class_keeps rule) classes ≡ true
+  pub kept : KeepRules classes

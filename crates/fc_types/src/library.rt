@@ -53,7 +53,43 @@ impl Model for Instances {
 }
 
 impl Library {
-    ghost use Rattle.fc_types.specs.Libraries.{IsLibrary};
+    ghost use Rattle.fc_types.specs.Libraries.{AreKnown, AreRising, IsLibrary, first_fault};
+    ghost use Rattle.fc_types.specs.declared.fault.CheckFault.TheVariants as fault;
+
+    /// The library of these classes, and these instances in their order. The faults are looked for in the order of
+    /// [`CheckFault`], those of the classes before those of the instances (`UnknownClass`, and then `DuplicateId`), and
+    /// each one in its whole list before the next one.
+    pub fn check(
+        classes: Vec<Class>,
+        instances: Vec<(u32, u32)>,
+    ) -> Result<(Library, Instances), CheckFault>
+        ensures refused { IfErr result (λ e. e ≢ fault.Memory → first_fault classes.items instances.items ≡ Some e) }
+        ensures accepted { OnOk result (first_fault classes.items instances.items ≡ None) }
+        ensures classes { IfOk result (λ r. r.0 ≡ classes.items) }
+        ensures instances { IfOk result (λ r. IsPermutation instances.items r.1) }
+        ensures rules { IfOk result (λ r. IsLibrary r.0) }
+        ensures rising { IfOk result (λ r. AreRising r.1) }
+        ensures known { IfOk result (λ r. AreKnown r.0 r.1) }
+    {
+        if let Some(fault) = class_fault(&classes, &instances) {
+            return Err(fault);
+        }
+        if !are_known(&classes, &instances) {
+            return Err(CheckFault::UnknownClass);
+        }
+        let instances = Instances::of(instances)?;
+        Ok((Library::of(classes), instances))
+    }
+
+    // The library of these classes.
+    fn of(classes: Vec<Class>) -> Library
+        requires { IsLibrary classes.items }
+        ensures { result ≡ classes.items }
+    {
+        Library {
+            classes: List::from_vec(classes),
+        }
+    }
 
     /// The classes.
     pub fn classes(&self) -> &[Class]
@@ -72,6 +108,7 @@ impl Instances {
     // The pairs in their order, where no two are the same.
     fn of(pairs: Vec<(u32, u32)>) -> Result<Instances, CheckFault>
         ensures same { IfOk result (λ instances. IsPermutation pairs.items instances) }
+        ensures rising { IfOk result (λ instances. AreRising instances) }
         ensures distinct { OnOk result (is_distinct same_instance pairs.items ≡ true) }
         ensures repeated { IfErr result (λ e. e ≢ fault.Memory → e ≡ fault.DuplicateId) }
         ensures repeats { IfErr result (λ e. e ≢ fault.Memory → is_distinct same_instance pairs.items ≡ false) }

@@ -17,3 +17,6 @@ pub returns-clause-distinct : goal.returns-clause-distinct
 returns-clause-distinct c =
     distinct_sorted c.args.pairs.items c.sort.new.self.items c.in_ok-sort.ensures.permutation
     (ap is_rising (sym c.deref.ensures.value) ∙ sym c.are_rising.ensures ∙ c.if-not-are_rising.false)
+
+pub returns-clause-rising : goal.returns-clause-rising
+returns-clause-rising c = invariant_of-result c
