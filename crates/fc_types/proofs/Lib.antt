@@ -1,3 +1,4 @@
+pub mod BuiltIns
 pub mod Faults
 pub mod Inside
 pub mod Nests

@@ -53,7 +53,7 @@ none_same : (p : ℕ × ℕ) (qs : List (ℕ × ℕ)) → AllByRecursion (λ q. 
 none_same p [] all = refl
 none_same p (q ∷ qs) all = rw (apart p q all.0) (none_same p qs all.1)
 
-rising_distinct : (ps : List (ℕ × ℕ)) → AreRising ps → is_distinct same_instance ps ≡ true
+pub rising_distinct : (ps : List (ℕ × ℕ)) → AreRising ps → is_distinct same_instance ps ≡ true
 unfolding IsStrictlySortedBy
 rising_distinct [] up = refl
 rising_distinct (p ∷ ps) up = rw (none_same p ps up.0) (rising_distinct ps up.1)
@@ -129,4 +129,11 @@ repeated_sorted ps qs moves up e =
     elim (true_or_false (is_distinct same_instance ps)) [
       inl apart_all ↦ let t : is_distinct same_instance qs ≡ true = distinct_moved ps qs moves apart_all in let f : is_distinct same_instance qs ≡ false = repeated qs up e in absurd (cc)
     | inr found ↦ found
+    ]
+
+pub distinct_rises : (ps qs : List (ℕ × ℕ)) → IsPermutation ps qs → IsSorted pair_cmp qs → is_distinct same_instance ps ≡ true → AreRising qs
+distinct_rises ps qs moves up e =
+    elim (true_or_false (is_rising qs)) [
+      inl rising ↦ rises qs rising
+    | inr found ↦ let f : is_distinct same_instance ps ≡ false = repeated_sorted ps qs moves up found in absurd (cc)
     ]

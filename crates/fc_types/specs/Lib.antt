@@ -1,3 +1,4 @@
+pub mod BuiltIn
 pub mod Classes
 pub mod Components
 pub mod Ids

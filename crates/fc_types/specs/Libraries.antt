@@ -5,6 +5,7 @@ use Rattle.std.specs.List.{list_all, list_any}
 use Rattle.std.specs.List.Sorted.{IsStrictlySortedBy}
 use Rattle.std.specs.Ordering.{nat_cmp, ordering_then, is_lt}
 use Rattle.std.specs.declared.cmp.Ordering.{Ordering}
+use Rattle.fc_types.specs.BuiltIn.{is_built_in}
 use Rattle.fc_types.specs.Ids.{is_distinct}
 use Rattle.fc_types.specs.Classes.{class_keeps}
 use Rattle.fc_types.specs.declared.class.Class.{Class}
@@ -17,21 +18,9 @@ use Rattle.fc_types.specs.declared.fault.CheckFault.TheVariants as fault
 abbrev pub class_id : Class → ℕ
 class_id class = class.id
 
--- The classes that each element has of itself: FE Object 1, FE Protocol 2 (RFC 5812, section 5; RFC 5810, appendix B) and
--- Mastership 0001F001, which is this profile's own.
-abbrev pub built_in_ids : List ℕ
-built_in_ids = 1 ∷ 2 ∷ 126977 ∷ []
-
-abbrev pub is_built_in : ℕ → Bool
-is_built_in id = list_any (λ taken. id == taken) built_in_ids
-
 -- the class is not one of the built-in ones
 abbrev pub is_own : Class → Bool
 is_own class = not (is_built_in class.id)
-
--- the instances of the built-in classes: one of each, with ID 1
-abbrev pub built_in_instances : List (ℕ × ℕ)
-built_in_instances = (1, 1) ∷ (2, 1) ∷ (126977, 1) ∷ []
 
 -- two instances of one class with one ID
 abbrev pub same_instance : ℕ × ℕ → ℕ × ℕ → Bool

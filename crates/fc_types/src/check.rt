@@ -4,6 +4,7 @@ ghost use Rattle.std.specs.List.{list_all};
 ghost use Rattle.fc_types.specs.Libraries as spec;
 ghost use Rattle.fc_types.specs.Libraries.{class_rules, first_broken, is_own, is_known};
 
+use crate::built_in::is_built_in;
 use crate::classes::{ClassRule, all_keep};
 use crate::{CheckFault, Class, are_distinct, has_id};
 
@@ -12,9 +13,6 @@ const CLASSES_LIMIT: usize = 256;
 
 /// The greatest number of instances that a maker declares.
 const INSTANCES_LIMIT: usize = 4096;
-
-/// The ID of the class Mastership, which is this profile's own.
-pub const MASTERSHIP: u32 = 0x0001_F001;
 
 /// The first fault of the classes, each fault looked for in all of them before the next one.
 #[tactic(auto, unfolding(crate::specs::Libraries::class_rules))]
@@ -62,13 +60,6 @@ fn are_own(classes: &[Class]) -> bool
         }
     }
     true
-}
-
-/// Whether a class with the ID is one that each element has of itself.
-pub fn is_built_in(class: u32) -> bool
-    ensures { result ≡ spec.is_built_in class }
-{
-    class == 1 || class == 2 || class == MASTERSHIP
 }
 
 /// Whether the class of each instance is among these.

@@ -2,6 +2,7 @@
 //! that is checked once, so that everything above may rely on its rules (RFC 5812, section 4).
 #![tactic(auto)]
 
+mod built_in;
 mod check;
 mod class;
 mod classes;
@@ -14,6 +15,7 @@ mod rules;
 mod size;
 mod ty;
 
+pub use built_in::{FE_OBJECT, FE_PROTOCOL, MASTERSHIP, is_built_in, is_live};
 pub use class::{Class, Component, EventDecl, When};
 pub use fault::CheckFault;
 pub use ids::{Identified, are_distinct, has_id, with_id};

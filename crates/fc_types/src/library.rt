@@ -1,8 +1,10 @@
 // A library of classes, and the instances that an element has of them.
-ghost use Rattle.std.specs.Prelude.{◌≡◌, ◌≢◌, ◌∷◌, [], ◌++◌, Some, None, true, false, IfOk, OnOk, IfErr, IsTrue, map};
+ghost use Rattle.std.specs.Prelude.{◌≡◌, ◌≢◌, ◌∷◌, [], ◌++◌, Some, None, true, false, not, IfOk, OnOk, IfErr, IsTrue, map};
+ghost use Rattle.std.specs.List.{list_all};
 ghost use Rattle.fc_types.specs.Libraries.{is_below, is_rising};
 ghost use Rattle.std.specs.List.Sorted.{IsPermutation};
 
+use crate::built_in::MASTERSHIP;
 use crate::check::{are_known, class_fault};
 use crate::{CheckFault, Class};
 use fc_base::{Duplicate, List, Memory};
@@ -53,7 +55,8 @@ impl Model for Instances {
 }
 
 impl Library {
-    ghost use Rattle.fc_types.specs.Libraries.{AreKnown, AreRising, IsLibrary, first_fault};
+    ghost use Rattle.fc_types.specs.Libraries.{AreKnown, AreRising, IsLibrary, KeepRules, first_fault, class_id, is_own};
+    ghost use Rattle.fc_types.specs.BuiltIn.{built_in_ids, built_in_instances};
     ghost use Rattle.fc_types.specs.declared.fault.CheckFault.TheVariants as fault;
 
     /// The library of these classes, and these instances in their order. The faults are looked for in the order of
@@ -81,6 +84,41 @@ impl Library {
         Ok((Library::of(classes), instances))
     }
 
+    /// The library with the three classes that each element has of itself, which are given in the order of their IDs, and
+    /// the instances with instance 1 of each of them.
+    pub fn with_built_in(
+        self,
+        instances: Instances,
+        own: Vec<Class>,
+    ) -> Result<(Library, Instances), Memory>
+        requires ids { map class_id own.items ≡ built_in_ids }
+        requires kept { KeepRules own.items }
+        requires absent { list_all is_own self ≡ true }
+        requires known { AreKnown self instances }
+        ensures classes { IfOk result (λ r. r.0 ≡ self ++ own.items) }
+        ensures instances { IfOk result (λ r. IsPermutation (instances ++ built_in_instances) r.1) }
+        ensures rules { IfOk result (λ r. IsLibrary r.0) }
+        ensures rising { IfOk result (λ r. AreRising r.1) }
+        ensures known { IfOk result (λ r. AreKnown r.0 r.1) }
+    {
+        let instances = instances.with_built_in()?;
+        let library = self.with(own)?;
+        Ok((library, instances))
+    }
+
+    // The library with more classes.
+    fn with(self, own: Vec<Class>) -> Result<Library, Memory>
+        requires { IsLibrary (self ++ own.items) }
+        ensures { IfOk result (λ r. r ≡ self ++ own.items) }
+    {
+        let Library { classes } = self;
+        let mut classes = classes;
+        for class in own {
+            classes.push(class)?;
+        }
+        Ok(Library { classes })
+    }
+
     // The library of these classes.
     fn of(classes: Vec<Class>) -> Library
         requires { IsLibrary classes.items }
@@ -103,6 +141,7 @@ impl Library {
 impl Instances {
     ghost use Rattle.fc_types.specs.Ids.{is_distinct};
     ghost use Rattle.fc_types.specs.Libraries.{AreRising, same_instance};
+    ghost use Rattle.fc_types.specs.BuiltIn.{built_in_instances, is_built_in};
     ghost use Rattle.fc_types.specs.declared.fault.CheckFault.TheVariants as fault;
 
     // The pairs in their order, where no two are the same.
@@ -118,6 +157,23 @@ impl Instances {
         if !are_rising(&pairs) {
             return Err(CheckFault::DuplicateId);
         }
+        Ok(Instances {
+            pairs: List::from_vec(pairs),
+        })
+    }
+
+    // The instances with instance 1 of each built-in class.
+    fn with_built_in(self) -> Result<Instances, Memory>
+        requires { list_all (λ p. not (is_built_in p.0)) self ≡ true }
+        ensures same { IfOk result (λ instances. IsPermutation (self ++ built_in_instances) instances) }
+        ensures rising { IfOk result (λ instances. AreRising instances) }
+    {
+        let Instances { pairs } = self;
+        let mut pairs = pairs.into_vec();
+        pairs.push((1, 1))?;
+        pairs.push((2, 1))?;
+        pairs.push((MASTERSHIP, 1))?;
+        pairs.sort()?;
         Ok(Instances {
             pairs: List::from_vec(pairs),
         })
