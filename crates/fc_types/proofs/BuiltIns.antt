@@ -1,19 +1,20 @@
 -- A library with the built-in classes, and its instances with one of each.
-use Rattle.std.proofs.Common.{◌≡◌, refl, sym, ap, ◌∙◌, arith, ℕ, ◌+◌, ◌≤◌, ◌==◌, nat_eq, Bool, true, false, not, ◌&&◌, ◌||◌, List, [], ◌∷◌, ◌++◌, map, count_by, sum_by, cond, ◌⊎◌, inl, inr}
+use Rattle.std.proofs.Common.{◌≡◌, refl, sym, ap, ◌∙◌, arith, ℕ, ◌+◌, ◌≤◌, ◌==◌, nat_eq, Bool, true, false, not, ◌&&◌, ◌||◌, List, [], ◌∷◌, ◌++◌, map, count_by, sum_by, cond, length, length-append, ◌⊎◌, inl, inr}
 use Rattle.std.proofs.lemmas.Bool.Decides.{nat_tests}
 use Rattle.std.proofs.lemmas.List.{map-append}
 use Rattle.std.proofs.lemmas.List.Folds.{list_all-append, list_any-append, list_all-map}
-use Rattle.std.proofs.lemmas.List.Sums.{sum_by-append}
+use Rattle.std.proofs.lemmas.List.Sorted.{sum_by-IsPermutation, length_permutation}
+use Rattle.std.proofs.lemmas.List.Sums.{sum_by-append, sum_by-cons}
 use Rattle.std.specs.List.{list_all, list_any}
-use Rattle.std.specs.List.Sorted.{IsPermutation}
+use Rattle.std.specs.List.Sorted.{IsPermutation, IsSorted}
 use Rattle.fc_types.specs.Ids.{is_distinct}
 use Rattle.fc_types.specs.BuiltIn.{built_in_ids, built_in_instances, is_built_in}
 use Rattle.fc_types.specs.Classes.{class_keeps}
-use Rattle.fc_types.specs.Libraries.{AreKnown, AreRising, IsLibrary, KeepRules, class_id, is_known, is_own, same_instance}
+use Rattle.fc_types.specs.Libraries.{AreInstances, AreKnown, AreRising, IsLibrary, KeepRules, class_id, is_known, is_own, is_own_instance, pair_cmp, same_instance}
 use Rattle.fc_types.specs.declared.class.Class.{Class}
 use Rattle.fc_types.specs.declared.classes.ClassRule.{ClassRule}
 use Rattle.fc_types.proofs.Faults.{known_moved}
-use Rattle.fc_types.proofs.Rising.{rising_distinct}
+use Rattle.fc_types.proofs.Rising.{distinct_rises, rising_distinct}
 
 both : (a b : Bool) → (a && b) ≡ true → (a ≡ true) × (b ≡ true)
 both true b e = (refl, e)
@@ -44,7 +45,7 @@ own_class (c ∷ classes) n own known =
     own_class_step c classes n parts.0 known (own_class classes n parts.1)
 
 pub own_pairs : (classes : List Class) (ps : List (ℕ × ℕ)) → list_all is_own classes ≡ true → AreKnown classes ps
-    → list_all (λ (p : ℕ × ℕ). not (is_built_in p.0)) ps ≡ true
+    → list_all is_own_instance ps ≡ true
 own_pairs classes [] own known = refl
 own_pairs classes (p ∷ ps) own known =
     let parts : (is_known classes p ≡ true) × (list_all (is_known classes) ps ≡ true) = both _ _ known in
@@ -69,17 +70,38 @@ not_with false true c k e = absurd (cc)
 not_with false false true k e = absurd (cc)
 not_with false false false k e = refl
 
-apart_pairs : (ps : List (ℕ × ℕ)) → list_all (λ (p : ℕ × ℕ). not (is_built_in p.0)) ps ≡ true
+apart_pairs : (ps : List (ℕ × ℕ)) → list_all is_own_instance ps ≡ true
     → list_all (λ (p : ℕ × ℕ). not (list_any (same_instance p) built_in_instances)) ps ≡ true
 apart_pairs [] e = refl
 apart_pairs (p ∷ ps) e =
-    let parts : (not (is_built_in p.0) ≡ true) × (list_all (λ (p : ℕ × ℕ). not (is_built_in p.0)) ps ≡ true) = both _ _ e in
+    let parts : (not (is_built_in p.0) ≡ true) × (list_all is_own_instance ps ≡ true) = both _ _ e in
     let none : not (list_any (same_instance p) built_in_instances) ≡ true = not_with (p.0 == 1) (p.0 == 2) (p.0 == 126977) (p.1 == 1) parts.0 in
     rw none (apart_pairs ps parts.1)
 
-pub distinct_with : (ps : List (ℕ × ℕ)) → AreRising ps → list_all (λ (p : ℕ × ℕ). not (is_built_in p.0)) ps ≡ true
+distinct_with : (ps : List (ℕ × ℕ)) → AreRising ps → list_all is_own_instance ps ≡ true
     → is_distinct same_instance (ps ++ built_in_instances) ≡ true
 distinct_with ps up own = distinct_joined same_instance ps built_in_instances (rising_distinct ps up) refl (apart_pairs ps own)
+
+-- instances that are none of the built-in classes' are counted whole
+count_own : (ps : List (ℕ × ℕ)) → list_all is_own_instance ps ≡ true → count_by is_own_instance ps ≡ length ps
+count_own [] e = refl
+count_own (p ∷ ps) e =
+    let parts : (is_own_instance p ≡ true) × (list_all is_own_instance ps ≡ true) = both _ _ e in
+    let more : count_by is_own_instance ps ≡ length ps = count_own ps parts.1 in
+    let step : count_by is_own_instance (p ∷ ps) ≡ cond (is_own_instance p) 1 0 + count_by is_own_instance ps = sum_by-cons (λ x. cond (is_own_instance x) 1 0) p ps in
+    let one : cond {A = ℕ} (is_own_instance p) 1 0 ≡ 1 = rw parts.0 refl in
+    omega arith
+
+pub instances_with : (ps qs : List (ℕ × ℕ)) → AreInstances ps → list_all is_own_instance ps ≡ true → IsPermutation (ps ++ built_in_instances) qs
+    → IsSorted pair_cmp qs → AreInstances qs
+instances_with ps qs held own moves up =
+    let joined : count_by is_own_instance (ps ++ built_in_instances) ≡ count_by is_own_instance ps + 0 = sum_by-append (λ p. cond (is_own_instance p) 1 0) ps built_in_instances in
+    let counted : count_by is_own_instance qs ≡ count_by is_own_instance (ps ++ built_in_instances) = sum_by-IsPermutation (λ p. cond (is_own_instance p) 1 0) _ _ moves in
+    let few : count_by is_own_instance ps ≤ 4096 = held.few in
+    let whole : count_by is_own_instance ps ≡ length ps = count_own ps own in
+    let long : length (ps ++ built_in_instances) ≡ length ps + 3 = length-append ps built_in_instances in
+    let kept : length qs ≡ length (ps ++ built_in_instances) = length_permutation (ps ++ built_in_instances) qs moves in
+    record { rising = distinct_rises (ps ++ built_in_instances) qs moves up (distinct_with ps held.rising own); few = omega arith; all = omega arith }
 
 -- no class with a built-in ID is an own one
 none_own : (classes : List Class) → list_all is_built_in (map class_id classes) ≡ true → count_by is_own classes ≡ 0

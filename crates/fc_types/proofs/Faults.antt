@@ -77,16 +77,34 @@ six true true true true false t e = absurd (cc)
 six true true true true true false e = absurd (cc)
 six true true true true true true e = (refl, refl, refl, refl, refl, refl)
 
--- where no rule of the classes is broken, they are those of a library
-pub library_of_rules : (classes : List Class) (pairs : List (ℕ × ℕ)) → first_broken (class_rules classes pairs) ≡ None → IsLibrary classes
+-- the rules of the classes, each one kept
+pub record Kept (classes : List Class) (pairs : List (ℕ × ℕ)) : Type 0 where
+  pub few : nat_le (length classes) 256 ≡ true
+  pub short : nat_le (length pairs) 4096 ≡ true
+  pub small : list_all (class_keeps Small) classes ≡ true
+  pub distinct : is_distinct nat_eq (map class_id classes) ≡ true
+  pub own : list_all is_own classes ≡ true
+  pub ids : list_all (class_keeps DistinctIds) classes ≡ true
+  pub rest : (list_all (class_keeps Shallow) classes ≡ true) × (list_all (class_keeps Ranges) classes ≡ true) × (list_all (class_keeps AtomicKeys) classes ≡ true) × (list_all (class_keeps Targets) classes ≡ true)
+
+kept_rules : (classes : List Class) (pairs : List (ℕ × ℕ)) → first_broken (class_rules classes pairs) ≡ None → Kept classes pairs
 unfolding class_rules
-library_of_rules classes pairs e =
+kept_rules classes pairs e =
     let r : (are_few classes pairs ≡ true) × (differ_in_ids classes ≡ true) × (list_all (class_keeps Shallow) classes ≡ true)
           × (list_all (class_keeps Ranges) classes ≡ true) × (list_all (class_keeps AtomicKeys) classes ≡ true)
           × (list_all (class_keeps Targets) classes ≡ true) = six _ _ _ _ _ _ e in
     let counts : (nat_le (length classes) 256 ≡ true) × (nat_le (length pairs) 4096 ≡ true) × (list_all (class_keeps Small) classes ≡ true) = three _ _ _ r.0 in
     let ids : (is_distinct nat_eq (map class_id classes) ≡ true) × (list_all is_own classes ≡ true) × (list_all (class_keeps DistinctIds) classes ≡ true) = three _ _ _ r.1 in
-    record { few = few classes counts.0; distinct = ids.0; kept = each_kept classes counts.2 ids.2 r.2 r.3 r.4 r.5 }
+    record { few = counts.0; short = counts.1; small = counts.2; distinct = ids.0; own = ids.1; ids = ids.2; rest = (r.2, r.3, r.4, r.5) }
+
+pub short_of_rules : (classes : List Class) (pairs : List (ℕ × ℕ)) → first_broken (class_rules classes pairs) ≡ None → length pairs ≤ 4096
+short_of_rules classes pairs e = let short : nat_le (length pairs) 4096 ≡ true = (kept_rules classes pairs e).short in grind (arith, nat_tests)
+
+-- where no rule of the classes is broken, they are those of a library
+pub library_of_rules : (classes : List Class) (pairs : List (ℕ × ℕ)) → first_broken (class_rules classes pairs) ≡ None → IsLibrary classes
+library_of_rules classes pairs e =
+    let k : Kept classes pairs = kept_rules classes pairs e in
+    record { few = few classes k.few; distinct = k.distinct; kept = each_kept classes k.small k.ids k.rest.0 k.rest.1 k.rest.2 k.rest.3 }
 
 pub known_moved : (classes : List Class) (ps qs : List (ℕ × ℕ)) → list_all (is_known classes) ps ≡ true → IsPermutation ps qs → AreKnown classes qs
 known_moved classes ps qs known moves =

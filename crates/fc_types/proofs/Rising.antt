@@ -1,7 +1,8 @@
 -- Instances in their order: those that rise are the sorted ones of which no two are the same.
-use Rattle.std.proofs.Common.{◌≡◌, ◌≢◌, refl, sym, ◌∙◌, arith, ℕ, suc, ◌+◌, ◌≤◌, ◌<◌, Bool, true, false, not, ◌&&◌, ◌||◌, List, [], ◌∷◌, length, get_or, ◌⊎◌, inl, inr}
+use Rattle.std.proofs.Common.{◌≡◌, ◌≢◌, refl, sym, ◌∙◌, arith, ℕ, suc, ◌+◌, ◌≤◌, ◌<◌, Bool, true, false, not, ◌&&◌, ◌||◌, List, [], ◌∷◌, length, get_or, count_by, ◌⊎◌, inl, inr}
 use Rattle.std.proofs.lemmas.Bool.Decides.{nat_tests}
-use Rattle.std.proofs.lemmas.List.Sorted.{IsPermutation-sym}
+use Rattle.std.proofs.lemmas.List.Sorted.{IsPermutation-sym, length_permutation}
+use Rattle.std.proofs.lemmas.List.Sums.{count_by-le-length}
 use Rattle.std.proofs.lemmas.Map.Keys.{IsDistinct-IsPermutation}
 use Rattle.std.specs.Cmp.{IsTotalOrder, then_total, on_total, nat_cmp_total}
 use Rattle.std.specs.List.{AllByRecursion, IsDistinct, list_any}
@@ -10,7 +11,7 @@ use Rattle.std.specs.Ordering.{is_lt}
 use Rattle.std.specs.declared.cmp.Ordering.{Ordering}
 use Rattle.std.specs.declared.cmp.Ordering.TheVariants.{Less}
 use Rattle.fc_types.specs.Ids.{is_distinct}
-use Rattle.fc_types.specs.Libraries.{AreRising, pair_cmp, same_instance, is_below, is_rising}
+use Rattle.fc_types.specs.Libraries.{AreInstances, AreRising, is_own_instance, pair_cmp, same_instance, is_below, is_rising}
 
 pair_cmp_total : IsTotalOrder pair_cmp
 pair_cmp_total = then_total (on_total (λ (p : ℕ × ℕ). p.0) nat_cmp_total) (on_total (λ (p : ℕ × ℕ). p.1) nat_cmp_total)
@@ -137,3 +138,10 @@ distinct_rises ps qs moves up e =
       inl rising ↦ rises qs rising
     | inr found ↦ let f : is_distinct same_instance ps ≡ false = repeated_sorted ps qs moves up found in absurd (cc)
     ]
+
+-- instances that were put into order, and rise
+pub instances_of : (ps qs : List (ℕ × ℕ)) → IsPermutation ps qs → is_rising qs ≡ true → length ps ≤ 4096 → AreInstances qs
+instances_of ps qs moves rising short =
+    let kept : length qs ≡ length ps = length_permutation ps qs moves in
+    let counted : count_by is_own_instance qs ≤ length qs = count_by-le-length is_own_instance qs in
+    record { rising = rises qs rising; few = omega arith; all = omega arith }

@@ -42,6 +42,17 @@ pair_cmp p q = ordering_then (nat_cmp p.0 q.0) (nat_cmp p.1 q.1)
 abbrev pub AreRising : List (ℕ × ℕ) → Type 0
 AreRising = IsStrictlySortedBy pair_cmp
 
+-- the class of the instance is not one of the built-in ones
+abbrev pub is_own_instance : ℕ × ℕ → Bool
+is_own_instance p = not (is_built_in p.0)
+
+-- What holds of the instances of each library, with those of the built-in classes or without them: they rise, and there are
+-- at most 4,096 of them beside the three of the built-in classes.
+pub record AreInstances (pairs : List (ℕ × ℕ)) : Type 0 where
+  pub rising : AreRising pairs
+  pub few : count_by is_own_instance pairs ≤ 4096
+  pub all : length pairs ≤ 4099
+
 -- the first of the instances, if any, is above one
 abbrev pub is_below : ℕ × ℕ → List (ℕ × ℕ) → Bool
 is_below p [] = true

@@ -1,5 +1,5 @@
 // A library of classes, and the instances that an element has of them.
-ghost use Rattle.std.specs.Prelude.{◌≡◌, ◌≢◌, ◌∷◌, [], ◌++◌, Some, None, true, false, not, IfOk, OnOk, IfErr, IsTrue, map};
+ghost use Rattle.std.specs.Prelude.{◌≡◌, ◌≢◌, ◌≤◌, length, ◌∷◌, [], ◌++◌, Some, None, true, false, IfOk, OnOk, IfErr, IsTrue, map};
 ghost use Rattle.std.specs.List.{list_all};
 ghost use Rattle.fc_types.specs.Libraries.{is_below, is_rising};
 ghost use Rattle.std.specs.List.Sorted.{IsPermutation};
@@ -47,15 +47,15 @@ impl Model for Instances {
 
     ghost Value = { List (ℕ × ℕ) };
 
-    ghost use Rattle.fc_types.specs.Libraries.{AreRising};
+    ghost use Rattle.fc_types.specs.Libraries.{AreInstances};
 
     ghost view = { λ s. s.pairs };
 
-    ghost invariant = { λ s. AreRising s.pairs };
+    ghost invariant = { λ s. AreInstances s.pairs };
 }
 
 impl Library {
-    ghost use Rattle.fc_types.specs.Libraries.{AreKnown, AreRising, IsLibrary, KeepRules, first_fault, class_id, is_own};
+    ghost use Rattle.fc_types.specs.Libraries.{AreInstances, AreKnown, IsLibrary, KeepRules, first_fault, class_id, is_own};
     ghost use Rattle.fc_types.specs.BuiltIn.{built_in_ids, built_in_instances};
     ghost use Rattle.fc_types.specs.declared.fault.CheckFault.TheVariants as fault;
 
@@ -71,7 +71,7 @@ impl Library {
         ensures classes { IfOk result (λ r. r.0 ≡ classes.items) }
         ensures instances { IfOk result (λ r. IsPermutation instances.items r.1) }
         ensures rules { IfOk result (λ r. IsLibrary r.0) }
-        ensures rising { IfOk result (λ r. AreRising r.1) }
+        ensures order { IfOk result (λ r. AreInstances r.1) }
         ensures known { IfOk result (λ r. AreKnown r.0 r.1) }
     {
         if let Some(fault) = class_fault(&classes, &instances) {
@@ -98,7 +98,7 @@ impl Library {
         ensures classes { IfOk result (λ r. r.0 ≡ self ++ own.items) }
         ensures instances { IfOk result (λ r. IsPermutation (instances ++ built_in_instances) r.1) }
         ensures rules { IfOk result (λ r. IsLibrary r.0) }
-        ensures rising { IfOk result (λ r. AreRising r.1) }
+        ensures order { IfOk result (λ r. AreInstances r.1) }
         ensures known { IfOk result (λ r. AreKnown r.0 r.1) }
     {
         let instances = instances.with_built_in()?;
@@ -140,14 +140,15 @@ impl Library {
 
 impl Instances {
     ghost use Rattle.fc_types.specs.Ids.{is_distinct};
-    ghost use Rattle.fc_types.specs.Libraries.{AreRising, same_instance};
-    ghost use Rattle.fc_types.specs.BuiltIn.{built_in_instances, is_built_in};
+    ghost use Rattle.fc_types.specs.Libraries.{AreInstances, is_own_instance, same_instance};
+    ghost use Rattle.fc_types.specs.BuiltIn.{built_in_instances};
     ghost use Rattle.fc_types.specs.declared.fault.CheckFault.TheVariants as fault;
 
     // The pairs in their order, where no two are the same.
     fn of(pairs: Vec<(u32, u32)>) -> Result<Instances, CheckFault>
+        requires { length pairs.items ≤ 4096 }
         ensures same { IfOk result (λ instances. IsPermutation pairs.items instances) }
-        ensures rising { IfOk result (λ instances. AreRising instances) }
+        ensures order { IfOk result (λ instances. AreInstances instances) }
         ensures distinct { OnOk result (is_distinct same_instance pairs.items ≡ true) }
         ensures repeated { IfErr result (λ e. e ≢ fault.Memory → e ≡ fault.DuplicateId) }
         ensures repeats { IfErr result (λ e. e ≢ fault.Memory → is_distinct same_instance pairs.items ≡ false) }
@@ -164,9 +165,9 @@ impl Instances {
 
     // The instances with instance 1 of each built-in class.
     fn with_built_in(self) -> Result<Instances, Memory>
-        requires { list_all (λ p. not (is_built_in p.0)) self ≡ true }
+        requires { list_all is_own_instance self ≡ true }
         ensures same { IfOk result (λ instances. IsPermutation (self ++ built_in_instances) instances) }
-        ensures rising { IfOk result (λ instances. AreRising instances) }
+        ensures order { IfOk result (λ instances. AreInstances instances) }
     {
         let Instances { pairs } = self;
         let mut pairs = pairs.into_vec();
@@ -182,7 +183,7 @@ impl Instances {
     /// The pairs of a class and an ID, which rise by class and then by ID.
     pub fn pairs(&self) -> &[(u32, u32)]
         ensures same { result.now ≡ self.now }
-        ensures rising { AreRising self.now }
+        ensures order { AreInstances self.now }
     {
         self.pairs.as_slice()
     }

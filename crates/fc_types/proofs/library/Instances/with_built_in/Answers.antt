@@ -1,9 +1,8 @@
 use Rattle.std.proofs.Common.{◌≡◌, ◌++◌, ◌∷◌, [], List, ℕ, ap, ◌∙◌, sym, subst, append_assoc}
 use Rattle.std.specs.List.Sorted.{IsPermutation}
-use Rattle.fc_types.specs.Libraries.{AreRising}
+use Rattle.fc_types.specs.Libraries.{AreInstances}
 use Rattle.fc_types.specs.BuiltIn.{built_in_instances}
-use Rattle.fc_types.proofs.BuiltIns.{distinct_with}
-use Rattle.fc_types.proofs.Rising.{distinct_rises}
+use Rattle.fc_types.proofs.BuiltIns.{instances_with}
 use Rattle.fc_types.proofs.library.Instances.with_built_in.Goals as goal
 
 -- three items one after the other
@@ -18,9 +17,8 @@ invariant_of-result c =
     let pushed : c.push-3.new.self.items ≡ c.args.self ++ built_in_instances =
           three_pushed c.args.self _ _ _ _ _ _ (c.in_ok-push.ensures.items ∙ ap (λ s. s ++ (1, 1) ∷ []) held) c.in_ok-push-2.ensures.items c.in_ok-push-3.ensures.items in
     let moves : IsPermutation (c.args.self ++ built_in_instances) c.sort.new.self.items = subst (λ s. IsPermutation s c.sort.new.self.items) pushed c.in_ok-sort.ensures.permutation in
-    subst AreRising (sym c.from_vec.ensures)
-    (distinct_rises (c.args.self ++ built_in_instances) c.sort.new.self.items moves c.in_ok-sort.ensures.sorted
-     (distinct_with c.args.self (subst AreRising c.self.view_is c.self.invariant) c.requires))
+    subst AreInstances (sym c.from_vec.ensures)
+    (instances_with c.args.self c.sort.new.self.items (subst AreInstances c.self.view_is c.self.invariant) c.requires moves c.in_ok-sort.ensures.sorted)
 
-pub returns-clause-rising : goal.returns-clause-rising
-returns-clause-rising c = invariant_of-result c
+pub returns-clause-order : goal.returns-clause-order
+returns-clause-order c = invariant_of-result c
