@@ -110,3 +110,17 @@ pub known_moved : (classes : List Class) (ps qs : List (ℕ × ℕ)) → list_al
 known_moved classes ps qs known moves =
     list_all-from_AllPass (is_known classes) qs
     (All-permutation (λ p. is_known classes p ≡ true) ps qs moves (AllPass-from_list_all (is_known classes) ps known))
+
+-- the first broken rule stands behind rules that are kept
+pub broken_is_first : (rules : List (Bool × CheckFault)) (f : CheckFault) → first_broken rules ≡ Some f
+    → (front : List (Bool × CheckFault)) × (back : List (Bool × CheckFault)) × (rules ≡ front ++ (false, f) ∷ back) × (list_all (λ (rule : Bool × CheckFault). rule.0) front ≡ true)
+broken_is_first [] f e = absurd (cc)
+broken_is_first ((true, g) ∷ rules) f e =
+    let more : (front : List (Bool × CheckFault)) × (back : List (Bool × CheckFault)) × (rules ≡ front ++ (false, f) ∷ back) × (list_all (λ (rule : Bool × CheckFault). rule.0) front ≡ true) = broken_is_first rules f e in
+    ((true, g) ∷ more.0, more.1, ap (λ rest. (true, g) ∷ rest) more.2, more.3)
+broken_is_first ((false, g) ∷ rules) f e = let same : g ≡ f = cc in ([], rules, ap (λ h. (false, h) ∷ rules) same, refl)
+
+pub all_kept : (rules : List (Bool × CheckFault)) → first_broken rules ≡ None → list_all (λ (rule : Bool × CheckFault). rule.0) rules ≡ true
+all_kept [] e = refl
+all_kept ((true, g) ∷ rules) e = all_kept rules e
+all_kept ((false, g) ∷ rules) e = absurd (cc)

@@ -14,7 +14,7 @@ unfolding nests
 nests_none levels ty e = ap (λ n. nests n ty) e
 
 -- `nests` at one level, whatever is known of the type's layer
-nests_more : (levels : ℕ) (ty : Ty) (l : Ty-F Ty Field) → levels ≢ 0 → out-Ty ty ≡ l → nests levels ty ≡ nests_layer (nests (levels - 1)) l
+pub nests_more : (levels : ℕ) (ty : Ty) (l : Ty-F Ty Field) → levels ≢ 0 → out-Ty ty ≡ l → nests levels ty ≡ nests_layer (nests (levels - 1)) l
 unfolding nests
 nests_more zero ty l some e = absurd (some refl)
 nests_more (suc n) ty l some e = let p : suc n - 1 ≡ n = omega arith in rw p (ap (nests_layer (nests n)) e)

@@ -11,6 +11,7 @@ use Rattle.std.specs.Ordering.{is_lt}
 use Rattle.std.specs.declared.cmp.Ordering.{Ordering}
 use Rattle.std.specs.declared.cmp.Ordering.TheVariants.{Less}
 use Rattle.fc_types.specs.Ids.{is_distinct}
+use Rattle.fc_types.proofs.Distinct.{distinct_from_test, test_from_distinct}
 use Rattle.fc_types.specs.Libraries.{AreInstances, AreRising, is_own_instance, pair_cmp, same_instance, is_below, is_rising}
 
 pair_cmp_total : IsTotalOrder pair_cmp
@@ -19,14 +20,6 @@ pair_cmp_total = then_total (on_total (λ (p : ℕ × ℕ). p.0) nat_cmp_total) 
 both : (a b : Bool) → (a && b) ≡ true → (a ≡ true) × (b ≡ true)
 both true b e = (refl, e)
 both false b e = absurd (cc)
-
-neither : (a b : Bool) → (a || b) ≡ false → (a ≡ false) × (b ≡ false)
-neither true b e = absurd (cc)
-neither false b e = (refl, e)
-
-was_false : (b : Bool) → not b ≡ true → b ≡ false
-was_false true e = absurd (cc)
-was_false false e = refl
 
 less_from_is_lt : (o : Ordering) → is_lt o ≡ true → o ≡ Less
 less_from_is_lt o e = grind arith
@@ -59,32 +52,11 @@ unfolding IsStrictlySortedBy
 rising_distinct [] up = refl
 rising_distinct (p ∷ ps) up = rw (none_same p ps up.0) (rising_distinct ps up.1)
 
--- Our test and std's relation are one.
-none_from_any : (p : ℕ × ℕ) (qs : List (ℕ × ℕ)) → list_any (same_instance p) qs ≡ false → AllByRecursion (λ q. same_instance p q ≡ false) qs
-none_from_any p [] e = tt
-none_from_any p (q ∷ qs) e = let a : (same_instance p q ≡ false) × (list_any (same_instance p) qs ≡ false) = neither _ _ e in (a.0, none_from_any p qs a.1)
-
-any_from_none : (p : ℕ × ℕ) (qs : List (ℕ × ℕ)) → AllByRecursion (λ q. same_instance p q ≡ false) qs → list_any (same_instance p) qs ≡ false
-any_from_none p [] all = refl
-any_from_none p (q ∷ qs) all = rw all.0 (any_from_none p qs all.1)
-
-distinct_from_test : (ps : List (ℕ × ℕ)) → is_distinct same_instance ps ≡ true → IsDistinct same_instance ps
-unfolding IsDistinct
-distinct_from_test [] e = tt
-distinct_from_test (p ∷ ps) e =
-    let parts : (not (list_any (same_instance p) ps) ≡ true) × (is_distinct same_instance ps ≡ true) = both _ _ e in
-    (none_from_any p ps (was_false _ parts.0), distinct_from_test ps parts.1)
-
-test_from_distinct : (ps : List (ℕ × ℕ)) → IsDistinct same_instance ps → is_distinct same_instance ps ≡ true
-unfolding IsDistinct
-test_from_distinct [] d = refl
-test_from_distinct (p ∷ ps) d = rw (any_from_none p ps d.0) (test_from_distinct ps d.1)
-
 same_flips : (p q : ℕ × ℕ) → same_instance p q ≡ same_instance q p
 same_flips p q = grind (arith, nat_tests)
 
 pub distinct_moved : (ps qs : List (ℕ × ℕ)) → IsPermutation ps qs → is_distinct same_instance ps ≡ true → is_distinct same_instance qs ≡ true
-distinct_moved ps qs moves e = test_from_distinct qs (IsDistinct-IsPermutation same_instance same_flips ps qs moves (distinct_from_test ps e))
+distinct_moved ps qs moves e = test_from_distinct same_instance qs (IsDistinct-IsPermutation same_instance same_flips ps qs moves (distinct_from_test same_instance ps e))
 
 pub distinct_sorted : (ps qs : List (ℕ × ℕ)) → IsPermutation ps qs → is_rising qs ≡ true → is_distinct same_instance ps ≡ true
 distinct_sorted ps qs moves e = distinct_moved qs ps (IsPermutation-sym ps qs moves) (rising_distinct qs (rises qs e))
