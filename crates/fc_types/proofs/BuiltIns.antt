@@ -7,33 +7,26 @@ use Rattle.std.proofs.lemmas.List.Sorted.{sum_by-IsPermutation, length_permutati
 use Rattle.std.proofs.lemmas.List.Sums.{sum_by-append, sum_by-cons}
 use Rattle.std.specs.List.{list_all, list_any}
 use Rattle.std.specs.List.Sorted.{IsPermutation, IsSorted}
+use Rattle.fc_types.proofs.Bools.{both, not_either, or_true, true_or_false}
 use Rattle.fc_types.specs.Ids.{is_distinct}
 use Rattle.fc_types.specs.BuiltIn.{built_in_ids, built_in_instances, is_built_in}
 use Rattle.fc_types.specs.Classes.{class_keeps}
 use Rattle.fc_types.specs.Libraries.{AreInstances, AreKnown, AreRising, IsLibrary, KeepRules, class_id, is_known, is_own, is_own_instance, pair_cmp, same_instance}
 use Rattle.fc_types.specs.declared.class.Class.{Class}
-use Rattle.fc_types.specs.declared.classes.ClassRule.{ClassRule}
+use Rattle.fc_types.specs.declared.class_rules.ClassRule.{ClassRule}
 use Rattle.fc_types.proofs.Faults.{known_moved}
 use Rattle.fc_types.proofs.Rising.{distinct_rises, rising_distinct}
 
-both : (a b : Bool) → (a && b) ≡ true → (a ≡ true) × (b ≡ true)
-both true b e = (refl, e)
-both false b e = absurd (cc)
-
 from_eq : (n m : ℕ) → (n == m) ≡ true → n ≡ m
 from_eq n m e = grind (arith, nat_tests)
-
-true_or_false : (b : Bool) → (b ≡ true) ⊎ (b ≡ false)
-true_or_false true = inl refl
-true_or_false false = inr refl
 
 own_class_step : (c : Class) (classes : List Class) (n : ℕ) → is_own c ≡ true
     → ((n == c.id) || list_any (λ id. n == id) (map class_id classes)) ≡ true
     → (list_any (λ id. n == id) (map class_id classes) ≡ true → not (is_built_in n) ≡ true) → not (is_built_in n) ≡ true
 own_class_step c classes n own known more =
     elim (true_or_false (n == c.id)) [
-      inl here ↦ ap (λ m. not (is_built_in m)) (from_eq n c.id here) ∙ own
-    | inr later ↦ more (rw later at known)
+      | inl here ↦ ap (λ m. not (is_built_in m)) (from_eq n c.id here) ∙ own
+      | inr later ↦ more (rw later at known)
     ]
 
 -- a class that is named by an own one is none of the built-in ones
@@ -50,10 +43,6 @@ own_pairs classes [] own known = refl
 own_pairs classes (p ∷ ps) own known =
     let parts : (is_known classes p ≡ true) × (list_all (is_known classes) ps ≡ true) = both _ _ known in
     rw (own_class classes p.0 own parts.0) (own_pairs classes ps own parts.1)
-
-not_either : (a b : Bool) → not a ≡ true → not b ≡ true → not (a || b) ≡ true
-not_either true b x y = absurd (cc)
-not_either false b x y = y
 
 pub distinct_joined : {X : Type 0} (same : X → X → Bool) (xs ys : List X) → is_distinct same xs ≡ true → is_distinct same ys ≡ true
     → list_all (λ x. not (list_any (same x) ys)) xs ≡ true → is_distinct same (xs ++ ys) ≡ true
@@ -113,17 +102,17 @@ none_own (c ∷ classes) e =
 pub library_with : (classes own : List Class) → IsLibrary classes → map class_id own ≡ built_in_ids → KeepRules own → list_all is_own classes ≡ true
     → IsLibrary (classes ++ own)
 library_with classes own l ids kept absent = record {
-      few =
-        let none : count_by is_own own ≡ 0 = none_own own (ap (list_all is_built_in) ids) in
-        let joined : count_by is_own (classes ++ own) ≡ count_by is_own classes + count_by is_own own = sum_by-append (λ c. cond (is_own c) 1 0) classes own in
-        let small : count_by is_own classes ≤ 256 = l.few in
-        omega arith;
-      distinct =
-        ap (is_distinct nat_eq) (map-append class_id classes own ∙ ap (λ more. map class_id classes ++ more) ids)
-        ∙ distinct_joined nat_eq (map class_id classes) built_in_ids l.distinct refl
-          (list_all-map (λ id. not (is_built_in id)) class_id classes ∙ absent);
-      kept = λ rule. list_all-append (class_keeps rule) classes own ∙ rw (l.kept rule, kept rule) refl;
-    }
+  few =
+      let none : count_by is_own own ≡ 0 = none_own own (ap (list_all is_built_in) ids) in
+      let joined : count_by is_own (classes ++ own) ≡ count_by is_own classes + count_by is_own own = sum_by-append (λ c. cond (is_own c) 1 0) classes own in
+      let small : count_by is_own classes ≤ 256 = l.few in
+      omega arith;
+  distinct =
+      ap (is_distinct nat_eq) (map-append class_id classes own ∙ ap (λ more. map class_id classes ++ more) ids)
+      ∙ distinct_joined nat_eq (map class_id classes) built_in_ids l.distinct refl
+      (list_all-map (λ id. not (is_built_in id)) class_id classes ∙ absent);
+  kept = λ rule. list_all-append (class_keeps rule) classes own ∙ rw (l.kept rule, kept rule) refl;
+}
 
 -- what is known among some classes is known among more
 more_known : (classes own : List Class) (ps : List (ℕ × ℕ)) → AreKnown classes ps → AreKnown (classes ++ own) ps
@@ -132,10 +121,6 @@ more_known classes own (p ∷ ps) known =
     let parts : (is_known classes p ≡ true) × (list_all (is_known classes) ps ≡ true) = both _ _ known in
     let here : is_known (classes ++ own) p ≡ true = ap (list_any (λ id. p.0 == id)) (map-append class_id classes own) ∙ list_any-append (λ id. p.0 == id) (map class_id classes) (map class_id own) ∙ rw parts.0 refl in
     rw here (more_known classes own ps parts.1)
-
-or_true : (a b : Bool) → b ≡ true → (a || b) ≡ true
-or_true true b e = refl
-or_true false b e = e
 
 built_in_known : (classes own : List Class) (n : ℕ) → map class_id own ≡ built_in_ids → is_built_in n ≡ true → list_any (λ id. n == id) (map class_id (classes ++ own)) ≡ true
 built_in_known classes own n ids e =
@@ -147,5 +132,5 @@ pub known_with : (classes own : List Class) (ps qs : List (ℕ × ℕ)) → map 
 known_with classes own ps qs ids known moves =
     known_moved (classes ++ own) (ps ++ built_in_instances) qs
     (list_all-append (is_known (classes ++ own)) ps built_in_instances
-     ∙ rw (more_known classes own ps known, built_in_known classes own 1 ids refl, built_in_known classes own 2 ids refl, built_in_known classes own 126977 ids refl) refl)
+    ∙ rw (more_known classes own ps known, built_in_known classes own 1 ids refl, built_in_known classes own 2 ids refl, built_in_known classes own 126977 ids refl) refl)
     moves

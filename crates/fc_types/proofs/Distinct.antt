@@ -3,19 +3,8 @@ use Rattle.std.proofs.Common.{◌≡◌, ◌≢◌, refl, arith, ℕ, ◌==◌, 
 use Rattle.std.proofs.lemmas.Bool.Decides.{Decides-eqb}
 use Rattle.std.proofs.lemmas.Map.Made.{AllPairs-from_IsDistinct, IsDistinct-from_AllPairs}
 use Rattle.std.specs.List.{AllByRecursion, AllPairs, IsDistinct, list_any}
+use Rattle.fc_types.proofs.Bools.{both, neither, was_false}
 use Rattle.fc_types.specs.Ids.{is_distinct}
-
-both : (a b : Bool) → (a && b) ≡ true → (a ≡ true) × (b ≡ true)
-both true b e = (refl, e)
-both false b e = absurd (cc)
-
-neither : (a b : Bool) → (a || b) ≡ false → (a ≡ false) × (b ≡ false)
-neither true b e = absurd (cc)
-neither false b e = (refl, e)
-
-was_false : (b : Bool) → not b ≡ true → b ≡ false
-was_false true e = absurd (cc)
-was_false false e = refl
 
 none_from_any : {X : Type 0} (same : X → X → Bool) (x : X) (ys : List X) → list_any (same x) ys ≡ false → AllByRecursion (λ y. same x y ≡ false) ys
 none_from_any same x [] e = tt

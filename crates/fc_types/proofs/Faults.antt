@@ -5,12 +5,13 @@ use Rattle.std.proofs.lemmas.List.Sums.{count_by-le-length, AllPass-from_list_al
 use Rattle.std.proofs.lemmas.List.Sorted.{All-permutation}
 use Rattle.std.specs.List.{list_all}
 use Rattle.std.specs.List.Sorted.{IsPermutation}
+use Rattle.fc_types.proofs.Bools.{three}
 use Rattle.fc_types.specs.Ids.{is_distinct}
 use Rattle.fc_types.specs.Classes.{class_keeps}
 use Rattle.fc_types.specs.Libraries.{first_broken, first_fault, class_rules, instance_rules, is_known, is_own, class_id, same_instance, are_few, differ_in_ids, IsLibrary, AreKnown}
 use Rattle.fc_types.specs.declared.class.Class.{Class}
-use Rattle.fc_types.specs.declared.classes.ClassRule.{ClassRule}
-use Rattle.fc_types.specs.declared.classes.ClassRule.TheVariants.{Small, DistinctIds, Shallow, Ranges, AtomicKeys, Targets}
+use Rattle.fc_types.specs.declared.class_rules.ClassRule.{ClassRule}
+use Rattle.fc_types.specs.declared.class_rules.ClassRule.TheVariants.{Small, DistinctIds, Shallow, Ranges, AtomicKeys, Targets}
 use Rattle.fc_types.specs.declared.fault.CheckFault.{CheckFault}
 use Rattle.fc_types.specs.declared.fault.CheckFault.TheVariants as fault
 
@@ -42,15 +43,6 @@ module _ (classes : List Class) (pairs : List (ℕ × ℕ)) where
       → is_distinct same_instance pairs ≡ true → first_fault classes pairs ≡ None
   unfolding first_fault instance_rules
   no_fault e known distinct = later (class_rules classes pairs) (instance_rules classes pairs) e ∙ rw (known, distinct) refl
-
-both : (a b : Bool) → (a && b) ≡ true → (a ≡ true) × (b ≡ true)
-both true b e = (refl, e)
-both false b e = absurd (cc)
-
-three : (a b c : Bool) → (a && b && c) ≡ true → (a ≡ true) × (b ≡ true) × (c ≡ true)
-three true true c e = (refl, refl, e)
-three true false c e = absurd (cc)
-three false b c e = absurd (cc)
 
 few : (classes : List Class) → nat_le (length classes) 256 ≡ true → count_by is_own classes ≤ 256
 few classes e = let at_most : count_by is_own classes ≤ length classes = count_by-le-length is_own classes in grind (arith, nat_tests)
@@ -91,8 +83,8 @@ kept_rules : (classes : List Class) (pairs : List (ℕ × ℕ)) → first_broken
 unfolding class_rules
 kept_rules classes pairs e =
     let r : (are_few classes pairs ≡ true) × (differ_in_ids classes ≡ true) × (list_all (class_keeps Shallow) classes ≡ true)
-          × (list_all (class_keeps Ranges) classes ≡ true) × (list_all (class_keeps AtomicKeys) classes ≡ true)
-          × (list_all (class_keeps Targets) classes ≡ true) = six _ _ _ _ _ _ e in
+    × (list_all (class_keeps Ranges) classes ≡ true) × (list_all (class_keeps AtomicKeys) classes ≡ true)
+    × (list_all (class_keeps Targets) classes ≡ true) = six _ _ _ _ _ _ e in
     let counts : (nat_le (length classes) 256 ≡ true) × (nat_le (length pairs) 4096 ≡ true) × (list_all (class_keeps Small) classes ≡ true) = three _ _ _ r.0 in
     let ids : (is_distinct nat_eq (map class_id classes) ≡ true) × (list_all is_own classes ≡ true) × (list_all (class_keeps DistinctIds) classes ≡ true) = three _ _ _ r.1 in
     record { few = counts.0; short = counts.1; small = counts.2; distinct = ids.0; own = ids.1; ids = ids.2; rest = (r.2, r.3, r.4, r.5) }

@@ -1,3 +1,4 @@
+pub mod Bools
 pub mod BuiltIns
 pub mod Distinct
 pub mod Faults

@@ -10,16 +10,13 @@ use Rattle.std.specs.List.Sorted.{IsStrictlySortedBy, IsSorted, IsPermutation}
 use Rattle.std.specs.Ordering.{is_lt}
 use Rattle.std.specs.declared.cmp.Ordering.{Ordering}
 use Rattle.std.specs.declared.cmp.Ordering.TheVariants.{Less}
+use Rattle.fc_types.proofs.Bools.{both, not_both, and_false, neither, true_or_false}
 use Rattle.fc_types.specs.Ids.{is_distinct}
 use Rattle.fc_types.proofs.Distinct.{distinct_from_test, test_from_distinct}
 use Rattle.fc_types.specs.Libraries.{AreInstances, AreRising, is_own_instance, pair_cmp, same_instance, is_below, is_rising}
 
 pair_cmp_total : IsTotalOrder pair_cmp
 pair_cmp_total = then_total (on_total (λ (p : ℕ × ℕ). p.0) nat_cmp_total) (on_total (λ (p : ℕ × ℕ). p.1) nat_cmp_total)
-
-both : (a b : Bool) → (a && b) ≡ true → (a ≡ true) × (b ≡ true)
-both true b e = (refl, e)
-both false b e = absurd (cc)
 
 less_from_is_lt : (o : Ordering) → is_lt o ≡ true → o ≡ Less
 less_from_is_lt o e = grind arith
@@ -76,39 +73,27 @@ sorted_two p q qs up = up 0 p (omega arith) (omega arith)
 repeats_first : (p q : ℕ × ℕ) (qs : List (ℕ × ℕ)) → same_instance p q ≡ true → is_distinct same_instance (p ∷ q ∷ qs) ≡ false
 repeats_first p q qs e = rw e refl
 
-not_both : (a b : Bool) → (a && b) ≡ false → (a ≡ false) ⊎ (b ≡ false)
-not_both true b e = inr e
-not_both false b e = inl refl
-
-and_false : (a b : Bool) → b ≡ false → (a && b) ≡ false
-and_false true b e = e
-and_false false b e = refl
-
 repeated : (qs : List (ℕ × ℕ)) → IsSorted pair_cmp qs → is_rising qs ≡ false → is_distinct same_instance qs ≡ false
 repeated [] up e = absurd (cc)
 repeated (p ∷ []) up e = absurd (cc)
 repeated (p ∷ q ∷ qs) up e =
     elim (not_both (is_lt (pair_cmp p q)) (is_rising (q ∷ qs)) e) [
-      inl same ↦ repeats_first p q qs (level p q same (sorted_two p q qs up))
-    | inr later ↦ and_false _ _ (repeated (q ∷ qs) (sorted_rest p (q ∷ qs) up) later)
+      | inl same ↦ repeats_first p q qs (level p q same (sorted_two p q qs up))
+      | inr later ↦ and_false _ _ (repeated (q ∷ qs) (sorted_rest p (q ∷ qs) up) later)
     ]
-
-true_or_false : (b : Bool) → (b ≡ true) ⊎ (b ≡ false)
-true_or_false true = inl refl
-true_or_false false = inr refl
 
 pub repeated_sorted : (ps qs : List (ℕ × ℕ)) → IsPermutation ps qs → IsSorted pair_cmp qs → is_rising qs ≡ false → is_distinct same_instance ps ≡ false
 repeated_sorted ps qs moves up e =
     elim (true_or_false (is_distinct same_instance ps)) [
-      inl apart_all ↦ let t : is_distinct same_instance qs ≡ true = distinct_moved ps qs moves apart_all in let f : is_distinct same_instance qs ≡ false = repeated qs up e in absurd (cc)
-    | inr found ↦ found
+      | inl apart_all ↦ let t : is_distinct same_instance qs ≡ true = distinct_moved ps qs moves apart_all in let f : is_distinct same_instance qs ≡ false = repeated qs up e in absurd (cc)
+      | inr found ↦ found
     ]
 
 pub distinct_rises : (ps qs : List (ℕ × ℕ)) → IsPermutation ps qs → IsSorted pair_cmp qs → is_distinct same_instance ps ≡ true → AreRising qs
 distinct_rises ps qs moves up e =
     elim (true_or_false (is_rising qs)) [
-      inl rising ↦ rises qs rising
-    | inr found ↦ let f : is_distinct same_instance ps ≡ false = repeated_sorted ps qs moves up found in absurd (cc)
+      | inl rising ↦ rises qs rising
+      | inr found ↦ let f : is_distinct same_instance ps ≡ false = repeated_sorted ps qs moves up found in absurd (cc)
     ]
 
 -- instances that were put into order, and rise

@@ -8,8 +8,8 @@ use Rattle.fc_types.specs.declared.class.Class.{Class}
 use Rattle.fc_types.specs.declared.class.EventDecl.{EventDecl}
 use Rattle.fc_types.specs.declared.class.When.{When}
 use Rattle.fc_types.specs.declared.class.When.TheVariants as when
-use Rattle.fc_types.specs.declared.classes.ClassRule.{ClassRule}
-use Rattle.fc_types.specs.declared.classes.ClassRule.TheVariants.{Small, DistinctIds, Shallow, Ranges, AtomicKeys, Targets}
+use Rattle.fc_types.specs.declared.class_rules.ClassRule.{ClassRule}
+use Rattle.fc_types.specs.declared.class_rules.ClassRule.TheVariants.{Small, DistinctIds, Shallow, Ranges, AtomicKeys, Targets}
 use Rattle.fc_types.specs.declared.ty.Ty.{Ty}
 use Rattle.fc_types.specs.declared.ty.Ty.TheOpen.{Ty-F}
 use Rattle.fc_types.specs.declared.ty.Ty.TheViews.{out-Ty}

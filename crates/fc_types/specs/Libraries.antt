@@ -9,8 +9,8 @@ use Rattle.fc_types.specs.BuiltIn.{is_built_in}
 use Rattle.fc_types.specs.Ids.{is_distinct}
 use Rattle.fc_types.specs.Classes.{class_keeps}
 use Rattle.fc_types.specs.declared.class.Class.{Class}
-use Rattle.fc_types.specs.declared.classes.ClassRule.{ClassRule}
-use Rattle.fc_types.specs.declared.classes.ClassRule.TheVariants.{Small, DistinctIds, Shallow, Ranges, AtomicKeys, Targets}
+use Rattle.fc_types.specs.declared.class_rules.ClassRule.{ClassRule}
+use Rattle.fc_types.specs.declared.class_rules.ClassRule.TheVariants.{Small, DistinctIds, Shallow, Ranges, AtomicKeys, Targets}
 use Rattle.fc_types.specs.declared.fault.CheckFault.{CheckFault}
 use Rattle.fc_types.specs.declared.fault.CheckFault.TheVariants as fault
 

@@ -5,7 +5,7 @@ ghost use Rattle.fc_types.specs.Libraries as spec;
 ghost use Rattle.fc_types.specs.Libraries.{class_rules, first_broken, is_own, is_known};
 
 use crate::built_in::is_built_in;
-use crate::classes::{ClassRule, all_keep};
+use crate::class_rules::{ClassRule, all_keep};
 use crate::{CheckFault, Class, are_distinct, has_id};
 
 /// The greatest number of classes that a maker declares.

@@ -5,21 +5,23 @@
 mod built_in;
 mod check;
 mod class;
-mod classes;
+mod class_rules;
 mod copies;
 mod depth;
 mod fault;
 mod ids;
 mod laws;
 mod library;
-mod rules;
 mod size;
 mod ty;
+mod type_rules;
 
 pub use built_in::{FE_OBJECT, FE_PROTOCOL, MASTERSHIP, is_built_in, is_live};
 pub use class::{Class, Component, EventDecl, When};
+pub use class_rules::target_type;
 pub use fault::CheckFault;
 pub use ids::{Identified, are_distinct, has_id, with_id};
 pub use laws::{different_ids, first_fault_is_first, sound_components, sound_level};
 pub use library::{Instances, Library};
 pub use ty::{Field, KeyDecl, Ty};
+pub use type_rules::{fields_of, is_atom};

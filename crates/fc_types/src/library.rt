@@ -197,6 +197,14 @@ impl Duplicate for Library {
     }
 }
 
+impl Duplicate for Instances {
+    fn copy(&self) -> Result<Self, Memory> {
+        Ok(Instances {
+            pairs: List::from_slice(self.pairs.alloc(), self.pairs.as_slice())?,
+        })
+    }
+}
+
 // Whether each pair is below the next one.
 fn are_rising(pairs: &[(u32, u32)]) -> bool
     ensures { result ≡ is_rising pairs.now }

@@ -32,7 +32,9 @@ fn full_size_capped(ty: &Ty) -> u64
     match ty {
         Ty::Bool => 1,
         Ty::Number { bytes, .. } => u64::from(*bytes),
-        Ty::String { length } | Ty::Octets { length } => padded(4 + u64::from(*length)).min(SIZE_CAP),
+        Ty::String { length } | Ty::Octets { length } => padded(4 + u64::from(*length)).min(
+            SIZE_CAP,
+        ),
         Ty::Bytes { length } => u64::from(*length).min(SIZE_CAP),
         Ty::Struct { fields } => fields_size_capped(fields),
         Ty::Array { entry, entries, .. } => {

@@ -55,13 +55,21 @@ pub enum Ty {
         max: i128,
     },
     /// A text in UTF-8 of at most so many bytes, from 1 to 32,768.
-    String { length: u32 },
+    String {
+        length: u32,
+    },
     /// At most so many bytes, from 1 to 32,768.
-    Octets { length: u32 },
+    Octets {
+        length: u32,
+    },
     /// Exactly so many bytes, from 1 to 32,768.
-    Bytes { length: u32 },
+    Bytes {
+        length: u32,
+    },
     /// One value of each field, in the order of the fields.
-    Struct { fields: List<Field> },
+    Struct {
+        fields: List<Field>,
+    },
     /// At most so many entries, from 1 to 65,536, each one at a subscript of 32 bits.
     Array {
         entry: Boxed<Ty>,

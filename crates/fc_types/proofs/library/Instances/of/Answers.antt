@@ -12,7 +12,7 @@ pub invariant_of-result : goal.invariant_of-result
 invariant_of-result c =
     subst AreInstances (sym c.from_vec.ensures)
     (instances_of c.args.pairs.items c.sort.new.self.items c.in_ok-sort.ensures.permutation
-     (ap is_rising (sym c.deref.ensures.value) ∙ sym c.are_rising.ensures ∙ c.if-not-are_rising.false) c.requires)
+    (ap is_rising (sym c.deref.ensures.value) ∙ sym c.are_rising.ensures ∙ c.if-not-are_rising.false) c.requires)
 
 pub returns-clause-order : goal.returns-clause-order
 returns-clause-order c = invariant_of-result c

@@ -15,7 +15,7 @@ pub invariant_of-result : goal.invariant_of-result
 invariant_of-result c =
     let held : c.into_vec-pairs.result.items ≡ c.args.self = c.into_vec-pairs.ensures ∙ c.self.view_is in
     let pushed : c.push-3.new.self.items ≡ c.args.self ++ built_in_instances =
-          three_pushed c.args.self _ _ _ _ _ _ (c.in_ok-push.ensures.items ∙ ap (λ s. s ++ (1, 1) ∷ []) held) c.in_ok-push-2.ensures.items c.in_ok-push-3.ensures.items in
+    three_pushed c.args.self _ _ _ _ _ _ (c.in_ok-push.ensures.items ∙ ap (λ s. s ++ (1, 1) ∷ []) held) c.in_ok-push-2.ensures.items c.in_ok-push-3.ensures.items in
     let moves : IsPermutation (c.args.self ++ built_in_instances) c.sort.new.self.items = subst (λ s. IsPermutation s c.sort.new.self.items) pushed c.in_ok-sort.ensures.permutation in
     subst AreInstances (sym c.from_vec.ensures)
     (instances_with c.args.self c.sort.new.self.items (subst AreInstances c.self.view_is c.self.invariant) c.requires moves c.in_ok-sort.ensures.sorted)

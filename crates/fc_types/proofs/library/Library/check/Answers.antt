@@ -40,9 +40,9 @@ returns-in_err-instances-clause-refused c =
     let p = err_from_is_err_and c.from_residual.result c.from_residual.ensures.1 in
     rw (p.1, p.2)
     (passed c.args.classes.items c.args.instances.items c.in_err-instances.field-0.0
-     (of_rules _ _ _ _ _ _ c.deref.ensures.value c.deref-2.ensures.value c.class_fault.ensures c.in_default.is)
-     (of_known _ _ _ _ _ _ c.deref-3.ensures.value c.deref-4.ensures.value c.are_known.ensures c.if-not-are_known.false)
-     c.in_err-instances.ensures.repeated c.in_err-instances.ensures.repeats)
+    (of_rules _ _ _ _ _ _ c.deref.ensures.value c.deref-2.ensures.value c.class_fault.ensures c.in_default.is)
+    (of_known _ _ _ _ _ _ c.deref-3.ensures.value c.deref-4.ensures.value c.are_known.ensures c.if-not-are_known.false)
+    c.in_err-instances.ensures.repeated c.in_err-instances.ensures.repeats)
 
 pub of-requires : goal.of-requires
 of-requires c =
@@ -65,5 +65,5 @@ pub returns-clause-known : goal.returns-clause-known
 returns-clause-known c =
     rw c.of-2.ensures
     (known_moved c.args.classes.items c.args.instances.items c.in_ok-instances.instances
-     (of_known _ _ _ _ _ _ c.deref-3.ensures.value c.deref-4.ensures.value c.are_known.ensures c.if-not-are_known.false)
-     c.in_ok-instances.ensures.same)
+    (of_known _ _ _ _ _ _ c.deref-3.ensures.value c.deref-4.ensures.value c.are_known.ensures c.if-not-are_known.false)
+    c.in_ok-instances.ensures.same)

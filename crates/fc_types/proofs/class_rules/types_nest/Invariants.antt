@@ -1,7 +1,7 @@
 use Rattle.std.proofs.Common.{◌≡◌, drop}
 use Rattle.std.specs.List.{list_all}
 use Rattle.fc_types.specs.Types.{nests}
-use Rattle.fc_types.proofs.classes.types_nest.Given as goal
+use Rattle.fc_types.proofs.class_rules.types_nest.Given as goal
 
 abbrev pub invariant-loop-component : goal.invariant-loop-component
 invariant-loop-component l = list_all (λ x. nests 8 x.ty) (drop l.component-index l.components) ≡ list_all (λ x. nests 8 x.ty) l.components

@@ -1,5 +1,5 @@
 use Rattle.std.proofs.Common.{length}
-use Rattle.fc_types.proofs.classes.+type_at.Given as goal
+use Rattle.fc_types.proofs.class_rules.+type_at.Given as goal
 
 abbrev pub decreases-type_at : goal.decreases-type_at
 decreases-type_at l = length l.ids.now

@@ -6,7 +6,7 @@ use Rattle.fc_types.specs.Classes.{type_at, some_type}
 use Rattle.fc_types.specs.Types.{field_id, field_ty, fields_of}
 use Rattle.fc_types.specs.declared.ty.Field.{Field}
 use Rattle.fc_types.specs.declared.ty.Ty.{Ty}
-use Rattle.fc_types.proofs.classes.+type_at.Goals as goal
+use Rattle.fc_types.proofs.class_rules.+type_at.Goals as goal
 
 -- what is left of a list behind its first item
 rest_of : (id : ℕ) (ids : List ℕ) → take (length (id ∷ ids) - 1) (drop 1 (id ∷ ids)) ≡ ids

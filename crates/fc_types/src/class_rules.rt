@@ -9,7 +9,7 @@ ghost use Rattle.fc_types.specs.TypeRules.{keeps};
 
 use crate::depth::{COUNT_CAP, fields_counted, nests_within};
 use crate::ids::has_id;
-use crate::rules::{TypeRule, fields_of, holds_inside, holds_throughout, is_atom};
+use crate::type_rules::{TypeRule, fields_of, holds_inside, holds_throughout, is_atom};
 use crate::{Class, Component, EventDecl, Ty, When, are_distinct, with_id};
 
 /// The greatest number of components of a class, with the fields in them and its events.

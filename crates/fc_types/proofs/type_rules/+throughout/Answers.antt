@@ -2,7 +2,7 @@ use Rattle.std.proofs.Common.{◌∙◌, sym, ap}
 use Rattle.fc_types.specs.Types.{throughout}
 use Rattle.fc_types.specs.TypeRules.{keeps}
 use Rattle.fc_types.proofs.Inside.{inside_struct, inside_array, inside_other}
-use Rattle.fc_types.proofs.rules.+throughout.Goals as goal
+use Rattle.fc_types.proofs.type_rules.+throughout.Goals as goal
 
 pub holds_inside-returns-in-Struct : goal.holds_inside-returns-in-Struct
 holds_inside-returns-in-Struct t c = c.holds_in_fields.ensures ∙ sym (inside_struct (keeps c.args.rule) c.args.ty.now c.in-Struct.fields c.in-Struct.is)
