@@ -92,6 +92,9 @@ kept_rules classes pairs e =
 pub short_of_rules : (classes : List Class) (pairs : List (ℕ × ℕ)) → first_broken (class_rules classes pairs) ≡ None → length pairs ≤ 4096
 short_of_rules classes pairs e = let short : nat_le (length pairs) 4096 ≡ true = (kept_rules classes pairs e).short in grind (arith, nat_tests)
 
+pub own_of_rules : (classes : List Class) (pairs : List (ℕ × ℕ)) → first_broken (class_rules classes pairs) ≡ None → list_all is_own classes ≡ true
+own_of_rules classes pairs e = (kept_rules classes pairs e).own
+
 -- where no rule of the classes is broken, they are those of a library
 pub library_of_rules : (classes : List Class) (pairs : List (ℕ × ℕ)) → first_broken (class_rules classes pairs) ≡ None → IsLibrary classes
 library_of_rules classes pairs e =

@@ -73,6 +73,7 @@ impl Library {
         ensures rules { IfOk result (λ r. IsLibrary r.0) }
         ensures order { IfOk result (λ r. AreInstances r.1) }
         ensures known { IfOk result (λ r. AreKnown r.0 r.1) }
+        ensures own { IfOk result (λ r. list_all is_own r.0 ≡ true) }
     {
         if let Some(fault) = class_fault(&classes, &instances) {
             return Err(fault);

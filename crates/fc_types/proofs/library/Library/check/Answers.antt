@@ -6,7 +6,7 @@ use Rattle.fc_types.specs.Libraries.{first_broken, first_fault, class_rules, is_
 use Rattle.fc_types.specs.declared.class.Class.{Class}
 use Rattle.fc_types.specs.declared.fault.CheckFault.{CheckFault}
 use Rattle.fc_types.specs.declared.fault.CheckFault.TheVariants as fault
-use Rattle.fc_types.proofs.Faults.{fault_of_classes, fault_unknown, fault_repeated, no_fault, library_of_rules, short_of_rules, known_moved}
+use Rattle.fc_types.proofs.Faults.{fault_of_classes, fault_unknown, fault_repeated, no_fault, library_of_rules, own_of_rules, short_of_rules, known_moved}
 use Rattle.fc_types.proofs.library.Library.check.Goals as goal
 
 -- what a call answered of slices that hold the two lists
@@ -67,3 +67,9 @@ returns-clause-known c =
     (known_moved c.args.classes.items c.args.instances.items c.in_ok-instances.instances
     (of_known _ _ _ _ _ _ c.deref-3.ensures.value c.deref-4.ensures.value c.are_known.ensures c.if-not-are_known.false)
     c.in_ok-instances.ensures.same)
+
+pub returns-clause-own : goal.returns-clause-own
+returns-clause-own c =
+    rw c.of-2.ensures
+    (own_of_rules c.args.classes.items c.args.instances.items
+    (of_rules _ _ _ _ _ _ c.deref.ensures.value c.deref-2.ensures.value c.class_fault.ensures c.in_default.is))

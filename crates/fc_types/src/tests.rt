@@ -1,0 +1,493 @@
+// Tables of declarations and what the check says of them.
+ghost use Rattle.std.specs.Prelude.{◌≡◌, ◌<◌, true, IfOk, map};
+ghost use Rattle.std.specs.List.{list_all};
+ghost use Rattle.fc_types.specs.BuiltIn.{built_in_ids};
+ghost use Rattle.fc_types.specs.Classes.{class_keeps};
+ghost use Rattle.fc_types.specs.Libraries.{AreKnown, KeepRules, class_id, is_own};
+ghost use Rattle.fc_types.specs.declared.class_rules.ClassRule.{ClassRule};
+
+use crate::{
+    CheckFault, Class, Component, EventDecl, Field, Instances, KeyDecl, Library, MASTERSHIP, Ty,
+    When, is_live,
+};
+use fc_base::{Boxed, Duplicate, List, Memory, Text};
+use std::alloc::Global;
+use std::test::Fail;
+
+fn number(bytes: u8, signed: bool, min: i128, max: i128) -> Ty {
+    Ty::Number {
+        bytes,
+        signed,
+        min,
+        max,
+    }
+}
+
+fn word() -> Ty {
+    number(4, false, 0, 0xFFFF_FFFF)
+}
+
+fn text() -> Ty {
+    Ty::String { length: 40 }
+}
+
+fn pair(alloc: Global, first: (u32, Ty), second: (u32, Ty)) -> Result<Ty, Memory> {
+    let mut fields = List::new(alloc);
+    let (id, ty) = first;
+    fields.push(field(alloc, id, ty)?)?;
+    let (id, ty) = second;
+    fields.push(field(alloc, id, ty)?)?;
+    Ok(Ty::Struct { fields })
+}
+
+fn field(alloc: Global, id: u32, ty: Ty) -> Result<Field, Memory> {
+    let name = Text::from_str(alloc, "field")?;
+    Ok(Field { id, name, ty })
+}
+
+fn array(alloc: Global, entries: u32, entry: Ty) -> Result<Ty, Memory> {
+    let entry = Boxed::new(alloc, entry)?;
+    Ok(Ty::Array {
+        entry,
+        entries,
+        keys: List::new(alloc),
+    })
+}
+
+// An array in a struct, of so many entries of so many bytes.
+fn held_array(alloc: Global, entries: u32, length: u32) -> Result<Ty, Memory> {
+    let entries = array(alloc, entries, Ty::Bytes { length })?;
+    pair(alloc, (1, Ty::Bool), (2, entries))
+}
+
+// So many arrays around a truth value.
+fn nested(alloc: Global, arrays: u32) -> Result<Ty, Memory> {
+    let mut ty = Ty::Bool;
+    for _ in 0..arrays {
+        ty = array(alloc, 1, ty)?;
+    }
+    Ok(ty)
+}
+
+// An array of structs of a truth value 1 and an array 2, with a key 1 of the field 1 and another key.
+fn keyed(alloc: Global, id: u32, fields: &[u32]) -> Result<Ty, Memory> {
+    let entry = pair(alloc, (1, Ty::Bool), (2, nested(alloc, 1)?))?;
+    let mut keys = List::new(alloc);
+    keys.push(key(alloc, 1, &[1])?)?;
+    keys.push(key(alloc, id, fields)?)?;
+    Ok(Ty::Array {
+        entry: Boxed::new(alloc, entry)?,
+        entries: 4,
+        keys,
+    })
+}
+
+fn key(alloc: Global, id: u32, fields: &[u32]) -> Result<KeyDecl, Memory> {
+    let fields = List::from_slice(alloc, fields)?;
+    Ok(KeyDecl { id, fields })
+}
+
+fn component(alloc: Global, id: u32, ty: Ty, optional: bool) -> Result<Component, Memory>
+    requires { 0 < id }
+{
+    let name = Text::from_str(alloc, "component")?;
+    Ok(Component {
+        id,
+        name,
+        ty,
+        access: 3,
+        optional,
+    })
+}
+
+fn class(alloc: Global, id: u32, ty: Ty) -> Result<Class, Memory> {
+    let mut components = List::new(alloc);
+    components.push(component(alloc, 1, ty, false)?)?;
+    components.push(component(alloc, 2, word(), true)?)?;
+    Ok(Class {
+        id,
+        name: Text::from_str(alloc, "class")?,
+        components,
+        event_base: 60,
+        events: List::new(alloc),
+    })
+}
+
+fn event(alloc: Global, id: u32, when: When, target: &[u32]) -> Result<EventDecl, Memory> {
+    Ok(EventDecl {
+        id,
+        name: Text::from_str(alloc, "event")?,
+        when,
+        target: List::from_slice(alloc, target)?,
+    })
+}
+
+// What the check says of classes and instances.
+fn fault_of(classes: Vec<Class>, instances: Vec<(u32, u32)>) -> Option<CheckFault> {
+    match Library::check(classes, instances) {
+        Ok(_) => None,
+        Err(fault) => Some(fault),
+    }
+}
+
+// What the check says of one class, without instances.
+fn fault_of_class(alloc: Global, class: Class) -> Result<Option<CheckFault>, Memory> {
+    let mut classes = Vec::new(alloc);
+    classes.push(class)?;
+    Ok(fault_of(classes, Vec::new(alloc)))
+}
+
+// What the check says of one class with a component of the type.
+fn fault_of_type(alloc: Global, ty: Ty) -> Result<Option<CheckFault>, Memory> {
+    fault_of_class(alloc, class(alloc, 0x1001, ty)?)
+}
+
+fn fault_if(broken: bool, fault: CheckFault) -> Option<CheckFault> {
+    if broken { Some(fault) } else { None }
+}
+
+#[test]
+fn ranges_at_their_edges(rt: HostRuntime) -> Result<(), Fail> {
+    let alloc = rt.alloc();
+    for (bytes, signed, min, max, broken) in [
+        (1, false, 0, 255, false),
+        (1, false, 0, 256, true),
+        (1, false, -1, 255, true),
+        (1, true, -128, 127, false),
+        (1, true, -129, 127, true),
+        (3, false, 0, 1, true),
+        (8, false, 5, 4, true),
+        (8, false, 0, 0xFFFF_FFFF_FFFF_FFFF, false),
+    ] {
+        let fault = fault_of_type(alloc, number(bytes, signed, min, max))?;
+        assert_eq!(rt;
+            fault,
+            fault_if(broken, CheckFault::BadRange),
+            "{bytes} {min} {max}"
+        );
+    }
+    for (length, broken) in [(0, true), (1, false), (32_768, false), (32_769, true)] {
+        let fault = fault_if(broken, CheckFault::BadRange);
+        assert_eq!(rt;
+            fault_of_type(alloc, Ty::String { length })?,
+            fault,
+            "{length}"
+        );
+        assert_eq!(rt;
+            fault_of_type(alloc, Ty::Octets { length })?,
+            fault,
+            "{length}"
+        );
+        assert_eq!(rt;
+            fault_of_type(alloc, Ty::Bytes { length })?,
+            fault,
+            "{length}"
+        );
+    }
+    Ok(())
+}
+
+#[test]
+fn arrays_at_their_edges(rt: HostRuntime) -> Result<(), Fail> {
+    let alloc = rt.alloc();
+    for (entries, held, broken) in [
+        (0, 19, true),
+        (65_536, 19, false),
+        (65_537, 19, true),
+        (1, 20, true),
+    ] {
+        let ty = array(alloc, entries, held_array(alloc, held, 3445)?)?;
+        assert_eq!(rt;
+            fault_of_type(alloc, ty)?,
+            fault_if(broken, CheckFault::BadRange),
+            "{entries} {held}"
+        );
+    }
+    for (entries, length, broken) in [(19, 3445, false), (4, 16_379, true)] {
+        let ty = held_array(alloc, entries, length)?;
+        assert_eq!(rt;
+            fault_of_type(alloc, ty)?,
+            fault_if(broken, CheckFault::BadRange),
+            "{entries} {length}"
+        );
+    }
+    for (arrays, broken) in [(0, false), (7, false), (8, true)] {
+        let ty = nested(alloc, arrays)?;
+        assert_eq!(rt;
+            fault_of_type(alloc, ty)?,
+            fault_if(broken, CheckFault::TooDeep),
+            "{arrays}"
+        );
+    }
+    Ok(())
+}
+
+#[test]
+fn keys_and_ids_inside_types(rt: HostRuntime) -> Result<(), Fail> {
+    let alloc = rt.alloc();
+    let rows: [(u32, &[u32], Option<CheckFault>); 7] = [
+        (2, &[1], None),
+        (1, &[1], Some(CheckFault::DuplicateId)),
+        (2, &[], Some(CheckFault::KeyNotAtomic)),
+        (2, &[1, 1], Some(CheckFault::KeyNotAtomic)),
+        (2, &[2], Some(CheckFault::KeyNotAtomic)),
+        (2, &[3], Some(CheckFault::KeyNotAtomic)),
+        (2, &[1, 3], Some(CheckFault::KeyNotAtomic)),
+    ];
+    for (id, fields, fault) in rows {
+        let ty = keyed(alloc, id, fields)?;
+        assert_eq!(rt; fault_of_type(alloc, ty)?, fault);
+    }
+    for (id, broken) in [(1, false), (7, true)] {
+        let ty = array(alloc, 1, pair(alloc, (id, Ty::Bool), (7, text()))?)?;
+        assert_eq!(rt;
+            fault_of_type(alloc, ty)?,
+            fault_if(broken, CheckFault::DuplicateId)
+        );
+    }
+    Ok(())
+}
+
+// A class with an event, whose component 1 is a struct of a number and a text, 2 is optional and 3 is an array.
+fn with_event(alloc: Global, when: When, target: &[u32]) -> Result<Class, Memory> {
+    let mut one = class(alloc, 0x1001, pair(alloc, (1, word()), (2, text()))?)?;
+    one.components
+        .push(component(alloc, 3, nested(alloc, 1)?, false)?)?;
+    one.events.push(event(alloc, 1, when, target)?)?;
+    Ok(one)
+}
+
+#[test]
+fn events_and_their_targets(rt: HostRuntime) -> Result<(), Fail> {
+    let alloc = rt.alloc();
+    let rows: [(When, &[u32], bool); 11] = [
+        (When::Greater, &[1, 1], false),
+        (When::Less, &[1, 2], true),
+        (When::Changed, &[1, 2], false),
+        (When::Changed, &[1], true),
+        (When::Created, &[3], false),
+        (When::Deleted, &[1, 1], true),
+        (When::Changed, &[2], true),
+        (When::Changed, &[], true),
+        (When::Changed, &[4], true),
+        (When::Changed, &[1, 3], true),
+        (When::Changed, &[3, 1], true),
+    ];
+    for (when, target, broken) in rows {
+        let fault = fault_of_class(alloc, with_event(alloc, when, target)?)?;
+        assert_eq!(rt; fault, fault_if(broken, CheckFault::BadTarget));
+    }
+    Ok(())
+}
+
+// A class with this event base and two events.
+fn with_base(alloc: Global, id: u32, base: u32, event_id: u32) -> Result<Class, Memory> {
+    let mut one = class(alloc, id, Ty::Bool)?;
+    one.event_base = base;
+    one.events
+        .push(event(alloc, event_id, When::Changed, &[1])?)?;
+    one.events.push(event(alloc, 2, When::Changed, &[1])?)?;
+    Ok(one)
+}
+
+#[test]
+fn ids_of_a_class(rt: HostRuntime) -> Result<(), Fail> {
+    let alloc = rt.alloc();
+    for (id, base, event_id, broken) in [
+        (7, 3, 1, false),
+        (7, 0, 1, false),
+        (7, 2, 1, true),
+        (7, 60, 2, true),
+        (1, 60, 1, true),
+        (2, 60, 1, true),
+        (MASTERSHIP, 60, 1, true),
+    ] {
+        let fault = fault_of_class(alloc, with_base(alloc, id, base, event_id)?)?;
+        assert_eq!(rt;
+            fault,
+            fault_if(broken, CheckFault::DuplicateId),
+            "{id} {base} {event_id}"
+        );
+    }
+    Ok(())
+}
+
+// A type that is too deep, out of range or a key that is made of nothing, by the fault that it has, and one without fault.
+fn flawed(alloc: Global, flaw: Option<CheckFault>) -> Result<Ty, Memory> {
+    match flaw {
+        Some(CheckFault::TooDeep) => nested(alloc, 8),
+        Some(CheckFault::BadRange) => Ok(Ty::Bytes { length: 0 }),
+        Some(CheckFault::KeyNotAtomic) => keyed(alloc, 2, &[]),
+        _ => Ok(text()),
+    }
+}
+
+// Classes 7 and another, with these flaws.
+fn two_classes(
+    alloc: Global,
+    flaw: Option<CheckFault>,
+    other: u32,
+    other_flaw: Option<CheckFault>,
+) -> Result<Vec<Class>, Memory> {
+    let mut classes = Vec::new(alloc);
+    classes.push(class(alloc, 7, flawed(alloc, flaw)?)?)?;
+    classes.push(class(alloc, other, flawed(alloc, other_flaw)?)?)?;
+    Ok(classes)
+}
+
+fn two_instances(
+    alloc: Global,
+    one: (u32, u32),
+    other: (u32, u32),
+) -> Result<Vec<(u32, u32)>, Memory> {
+    let mut pairs = Vec::new(alloc);
+    pairs.push(one)?;
+    pairs.push(other)?;
+    Ok(pairs)
+}
+
+#[test]
+fn the_first_of_two_faults(rt: HostRuntime) -> Result<(), Fail> {
+    let alloc = rt.alloc();
+    let (deep, range, key) = (
+        CheckFault::TooDeep,
+        CheckFault::BadRange,
+        CheckFault::KeyNotAtomic,
+    );
+    let (double, unknown) = (CheckFault::DuplicateId, CheckFault::UnknownClass);
+    for (flaw, other, other_flaw, one, last, fault) in [
+        (None, 8, None, (7, 1), (8, 1), None),
+        (None, 7, Some(deep), (7, 1), (7, 2), Some(double)),
+        (Some(range), 8, Some(deep), (7, 1), (7, 2), Some(deep)),
+        (Some(key), 8, Some(range), (7, 1), (7, 2), Some(range)),
+        (Some(key), 8, None, (7, 1), (9, 1), Some(key)),
+        (None, 8, None, (9, 1), (9, 1), Some(unknown)),
+        (None, 8, None, (7, 1), (1, 1), Some(unknown)),
+        (None, 8, None, (7, 1), (7, 1), Some(double)),
+    ] {
+        let classes = two_classes(alloc, flaw, other, other_flaw)?;
+        let instances = two_instances(alloc, one, last)?;
+        assert_eq!(rt; fault_of(classes, instances), fault);
+    }
+    Ok(())
+}
+
+// So many classes, the first of which has so many members.
+fn many_classes(alloc: Global, count: u32, members: u32) -> Result<Vec<Class>, Memory> {
+    let mut fields = List::new(alloc);
+    for id in 2..members {
+        fields.push(field(alloc, id, Ty::Bool)?)?;
+    }
+    let mut classes = Vec::new(alloc);
+    classes.push(class(alloc, 100, array(alloc, 1, Ty::Struct { fields })?)?)?;
+    for id in 1..count {
+        classes.push(class(alloc, 100 + id % 1000, Ty::Bool)?)?;
+    }
+    Ok(classes)
+}
+
+fn many_instances(alloc: Global, count: u32) -> Result<Vec<(u32, u32)>, Memory> {
+    let mut pairs = Vec::new(alloc);
+    for id in 0..count {
+        pairs.push((100, id))?;
+    }
+    Ok(pairs)
+}
+
+#[test]
+fn limits_of_counts(rt: HostRuntime) -> Result<(), Fail> {
+    let alloc = rt.alloc();
+    for (count, instances, members, broken) in [
+        (256, 0, 2, false),
+        (257, 0, 2, true),
+        (1, 4096, 2, false),
+        (1, 4097, 2, true),
+        (1, 0, 1024, false),
+        (1, 0, 1025, true),
+    ] {
+        let classes = many_classes(alloc, count, members)?;
+        let pairs = many_instances(alloc, instances)?;
+        assert_eq!(rt;
+            fault_of(classes, pairs),
+            fault_if(broken, CheckFault::TooMany),
+            "{count} {instances} {members}"
+        );
+    }
+    Ok(())
+}
+
+// A library of ports, with a table of them that has a key.
+fn port(alloc: Global) -> Result<Class, Memory> {
+    let mut port = class(alloc, 0x1001, number(4, false, 0, 1000))?;
+    port.components
+        .push(component(alloc, 4, keyed(alloc, 2, &[1])?, false)?)?;
+    port.events.push(event(alloc, 1, When::Greater, &[1])?)?;
+    Ok(port)
+}
+
+fn ports(alloc: Global) -> Result<(Library, Instances), CheckFault>
+    ensures own { IfOk result (λ r. list_all is_own r.0 ≡ true) }
+    ensures known { IfOk result (λ r. AreKnown r.0 r.1) }
+{
+    let mut classes = Vec::new(alloc);
+    let Ok(port) = port(alloc) else {
+        return Err(CheckFault::Memory);
+    };
+    if classes.push(port).is_err() {
+        return Err(CheckFault::Memory);
+    }
+    let Ok(pairs) = two_instances(alloc, (0x1001, 3), (0x1001, 1)) else {
+        return Err(CheckFault::Memory);
+    };
+    Library::check(classes, pairs)
+}
+
+#[test]
+fn ports_in_order(rt: HostRuntime) -> Result<(), Fail> {
+    let (library, instances) = ports(rt.alloc())?;
+    assert!(rt; instances.copy()?.pairs() == [(0x1001, 1), (0x1001, 3)].as_slice());
+    for class in library.copy()?.classes() {
+        assert_eq!(rt; class.components.len(), 3);
+    }
+    for (ident, live) in [(1, true), (6, false), (7, true), (8, false)] {
+        assert_eq!(rt; is_live(MASTERSHIP, ident), live);
+    }
+    Ok(())
+}
+
+// A class without components and events.
+fn bare(alloc: Global, id: u32) -> Result<Class, Memory>
+    ensures named { IfOk result (λ class. class.id ≡ id) }
+    ensures kept { IfOk result (λ class. (rule : ClassRule) → class_keeps rule class ≡ true) }
+{
+    Ok(Class {
+        id,
+        name: Text::from_str(alloc, "bare")?,
+        components: List::new(alloc),
+        event_base: 0,
+        events: List::new(alloc),
+    })
+}
+
+// Bare classes with the IDs of the built-in ones.
+fn bare_classes(alloc: Global) -> Result<Vec<Class>, Memory>
+    ensures named { IfOk result (λ own. map class_id own.items ≡ built_in_ids) }
+    ensures kept { IfOk result (λ own. KeepRules own.items) }
+{
+    let mut own = Vec::new(alloc);
+    own.push(bare(alloc, 1)?)?;
+    own.push(bare(alloc, 2)?)?;
+    own.push(bare(alloc, MASTERSHIP)?)?;
+    Ok(own)
+}
+
+#[test]
+fn ports_with_the_built_in_classes(rt: HostRuntime) -> Result<(), Fail> {
+    let alloc = rt.alloc();
+    let (library, instances) = ports(alloc)?;
+    let (library, instances) = library.with_built_in(instances, bare_classes(alloc)?)?;
+    assert_eq!(rt; library.classes().len(), 4);
+    let pairs = [(1, 1), (2, 1), (0x1001, 1), (0x1001, 3), (MASTERSHIP, 1)];
+    assert!(rt; instances.pairs() == pairs.as_slice());
+    Ok(())
+}
