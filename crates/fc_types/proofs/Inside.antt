@@ -1,7 +1,7 @@
 -- What stands inside a type, one level at a time.
 use Rattle.std.proofs.Common.{◌≡◌, refl, sym, ap, ap₂, ◌∙◌, ℕ, Bool, true, ◌&&◌, List, [], ◌∷◌, map}
 use Rattle.std.specs.List.{list_all}
-use Rattle.fc_types.specs.Types.{inside, inside_step, inside_field, throughout, field_ty}
+use Rattle.fc_types.specs.Types.{is_atom, is_atom_layer, inside, inside_step, inside_field, throughout, field_ty}
 use Rattle.fc_types.specs.declared.ty.Field.{Field}
 use Rattle.fc_types.specs.declared.ty.KeyDecl.{KeyDecl}
 use Rattle.fc_types.specs.declared.ty.Ty.{Ty}
@@ -71,3 +71,21 @@ pub inside_other : (test : Ty → Bool) (ty : Ty)
     → inside test ty ≡ true
 inside_other test ty s a =
     inside_law test ty ∙ other_layer test (out-Ty ty) (λ fields e. s fields (sym (roll-out-Ty ty) ∙ e)) (λ entry entries keys e. a entry entries keys (sym (roll-out-Ty ty) ∙ e))
+
+pub fields_inside : (test : Ty → Bool) (fields : List Field) → inside test (v.Struct fields) ≡ list_all (λ f. throughout test (field_ty f)) fields
+fields_inside test fields = inside_struct test (v.Struct fields) fields refl
+
+pub entry_inside : (test : Ty → Bool) (entry : Ty) (entries : ℕ) (keys : List KeyDecl) → inside test (v.Array entry entries keys) ≡ throughout test entry
+entry_inside test entry entries keys = inside_array test (v.Array entry entries keys) entry entries keys refl
+
+atom_layer : (test : Ty → Bool) (l : Ty-F Ty Field) → is_atom_layer l ≡ true → inside_layer test l ≡ true
+atom_layer test Ty-F.Bool e = refl
+atom_layer test (Ty-F.Number b g min max) e = refl
+atom_layer test (Ty-F.String length) e = refl
+atom_layer test (Ty-F.Octets length) e = refl
+atom_layer test (Ty-F.Bytes length) e = refl
+atom_layer test (Ty-F.Struct fields) e = absurd (cc)
+atom_layer test (Ty-F.Array entry entries keys) e = absurd (cc)
+
+pub none_inside : (test : Ty → Bool) (ty : Ty) → is_atom ty ≡ true → inside test ty ≡ true
+none_inside test ty e = inside_law test ty ∙ atom_layer test (out-Ty ty) e

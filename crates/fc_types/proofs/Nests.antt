@@ -1,7 +1,7 @@
 -- How deep a type nests, one level at a time.
 use Rattle.std.proofs.Common.{◌≡◌, ◌≢◌, refl, sym, ap, ◌∙◌, arith, ℕ, zero, suc, ◌-◌, ◌≤◌, Bool, true, false, List}
 use Rattle.std.specs.List.{list_all}
-use Rattle.fc_types.specs.Types.{nests, nests_layer, field_ty}
+use Rattle.fc_types.specs.Types.{is_atom, is_atom_layer, nests, nests_layer, field_ty}
 use Rattle.fc_types.specs.declared.ty.Field.{Field}
 use Rattle.fc_types.specs.declared.ty.KeyDecl.{KeyDecl}
 use Rattle.fc_types.specs.declared.ty.Ty.{Ty}
@@ -49,3 +49,31 @@ pub nests_other : (levels : ℕ) (ty : Ty) → levels ≢ 0
 nests_other levels ty some s a =
     nests_more levels ty (out-Ty ty) some refl
     ∙ other_layer (nests (levels - 1)) (out-Ty ty) (λ fields e. s fields (sym (roll-out-Ty ty) ∙ e)) (λ entry entries keys e. a entry entries keys (sym (roll-out-Ty ty) ∙ e))
+
+-- The same, from the levels inside on.
+deeper : (levels : ℕ) (ty : Ty) (l : Ty-F Ty Field) → out-Ty ty ≡ l → nests (suc levels) ty ≡ nests_layer (nests levels) l
+unfolding nests
+deeper levels ty l e = ap (nests_layer (nests levels)) e
+
+pub fields_nest : (levels : ℕ) (fields : List Field) → nests (suc levels) (v.Struct fields) ≡ list_all (λ f. nests levels (field_ty f)) fields
+fields_nest levels fields = deeper levels (v.Struct fields) (Ty-F.Struct fields) (ap out-Ty (sym (v.rolls-Struct fields)) ∙ out-roll-Ty (Ty-F.Struct fields))
+
+pub entry_nests : (levels : ℕ) (entry : Ty) (entries : ℕ) (keys : List KeyDecl) → nests (suc levels) (v.Array entry entries keys) ≡ nests levels entry
+entry_nests levels entry entries keys =
+    deeper levels (v.Array entry entries keys) (Ty-F.Array entry entries keys)
+    (ap out-Ty (sym (v.rolls-Array entry entries keys)) ∙ out-roll-Ty (Ty-F.Array entry entries keys))
+
+atom_layer : (within : Ty → Bool) (l : Ty-F Ty Field) → is_atom_layer l ≡ true → nests_layer within l ≡ true
+atom_layer within Ty-F.Bool e = refl
+atom_layer within (Ty-F.Number b g min max) e = refl
+atom_layer within (Ty-F.String length) e = refl
+atom_layer within (Ty-F.Octets length) e = refl
+atom_layer within (Ty-F.Bytes length) e = refl
+atom_layer within (Ty-F.Struct fields) e = absurd (cc)
+atom_layer within (Ty-F.Array entry entries keys) e = absurd (cc)
+
+pub atom_nests : (levels : ℕ) (ty : Ty) → is_atom ty ≡ true → nests (suc levels) ty ≡ true
+atom_nests levels ty e = deeper levels ty (out-Ty ty) refl ∙ atom_layer (nests levels) (out-Ty ty) e
+
+pub none_nest : (ty : Ty) → nests 0 ty ≡ false
+none_nest ty = nests_none 0 ty refl

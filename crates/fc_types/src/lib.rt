@@ -23,7 +23,9 @@ pub use class::{Class, Component, EventDecl, When};
 pub use class_rules::target_type;
 pub use fault::CheckFault;
 pub use ids::{Identified, are_distinct, has_id, with_id};
-pub use laws::{different_ids, first_fault_is_first, sound_components, sound_level};
+pub use laws::{
+    different_ids, first_fault_is_first, inside_types, nesting_types, sound_components, sound_level,
+};
 pub use library::{Instances, Library};
 pub use ty::{Field, KeyDecl, Ty};
 pub use type_rules::{fields_of, is_atom};
