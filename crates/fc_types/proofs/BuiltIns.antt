@@ -1,5 +1,5 @@
 -- A library with the built-in classes, and its instances with one of each.
-use Rattle.std.proofs.Common.{◌≡◌, refl, sym, ap, ◌∙◌, arith, ℕ, ◌+◌, ◌≤◌, ◌==◌, nat_eq, Bool, true, false, not, ◌&&◌, ◌||◌, List, [], ◌∷◌, ◌++◌, map, count_by, sum_by, cond, length, length-append, ◌⊎◌, inl, inr}
+use Rattle.std.proofs.Common.{◌≡◌, refl, ap, ◌∙◌, arith, ℕ, ◌+◌, ◌≤◌, ◌==◌, nat_eq, Bool, true, false, not, ◌&&◌, ◌||◌, List, [], ◌∷◌, ◌++◌, map, count_by, cond, length, length-append, inl, inr}
 use Rattle.std.proofs.lemmas.Bool.Decides.{nat_tests}
 use Rattle.std.proofs.lemmas.List.{map-append}
 use Rattle.std.proofs.lemmas.List.Folds.{list_all-append, list_any-append, list_all-map}
@@ -13,7 +13,6 @@ use Rattle.fc_types.specs.BuiltIn.{built_in_ids, built_in_instances, is_built_in
 use Rattle.fc_types.specs.Classes.{class_keeps}
 use Rattle.fc_types.specs.Libraries.{AreInstances, AreKnown, AreRising, IsLibrary, KeepRules, class_id, is_known, is_own, is_own_instance, pair_cmp, same_instance}
 use Rattle.fc_types.specs.declared.class.Class.{Class}
-use Rattle.fc_types.specs.declared.class_rules.ClassRule.{ClassRule}
 use Rattle.fc_types.proofs.Faults.{known_moved}
 use Rattle.fc_types.proofs.Rising.{distinct_rises, rising_distinct}
 

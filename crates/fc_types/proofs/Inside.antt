@@ -7,8 +7,8 @@ use Rattle.fc_types.specs.declared.ty.KeyDecl.{KeyDecl}
 use Rattle.fc_types.specs.declared.ty.Ty.{Ty}
 use Rattle.fc_types.specs.declared.ty.Ty.TheVariants as v
 use Rattle.fc_types.specs.declared.ty.Ty.TheOpen.{Ty-F, Field-F}
-use Rattle.fc_types.specs.declared.ty.Ty.TheViews.{out-Ty, roll-Ty, out-roll-Ty, roll-out-Ty, out-Field, roll-Field, out-roll-Field, roll-out-Field}
-use Rattle.fc_types.specs.declared.ty.Ty.TheFolds.{para-Ty, para-Field, para-roll-Ty, para-roll-Field}
+use Rattle.fc_types.specs.declared.ty.Ty.TheViews.{out-Ty, roll-Ty, roll-out-Ty, out-Field, roll-Field, roll-out-Field}
+use Rattle.fc_types.specs.declared.ty.Ty.TheFolds.{para-Field, para-roll-Ty, para-roll-Field}
 
 -- one level of `inside`
 abbrev pub inside_layer : (Ty → Bool) → Ty-F Ty Field → Bool

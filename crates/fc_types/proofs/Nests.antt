@@ -1,5 +1,5 @@
 -- How deep a type nests, one level at a time.
-use Rattle.std.proofs.Common.{◌≡◌, ◌≢◌, refl, sym, ap, ◌∙◌, arith, ℕ, zero, suc, ◌-◌, ◌≤◌, Bool, true, false, List}
+use Rattle.std.proofs.Common.{◌≡◌, ◌≢◌, refl, sym, ap, ◌∙◌, arith, ℕ, zero, suc, ◌-◌, Bool, true, false, List}
 use Rattle.std.specs.List.{list_all}
 use Rattle.fc_types.specs.Types.{is_atom, is_atom_layer, nests, nests_layer, field_ty}
 use Rattle.fc_types.specs.declared.ty.Field.{Field}

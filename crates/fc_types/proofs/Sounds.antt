@@ -1,11 +1,11 @@
 -- What the rules of a library say of the types of its components, one level at a time.
-use Rattle.std.proofs.Common.{◌≡◌, ◌≢◌, refl, sym, ap, ◌∙◌, arith, ℕ, zero, suc, ◌-◌, Bool, true, false, ◌&&◌, List, [], ◌∷◌, map, nat_eq}
+use Rattle.std.proofs.Common.{◌≡◌, refl, sym, ap, ◌∙◌, arith, ℕ, zero, suc, Bool, true, ◌&&◌, List, [], ◌∷◌}
 use Rattle.std.specs.List.{AllByRecursion, list_all}
 use Rattle.fc_types.proofs.Bools.{both}
-use Rattle.fc_types.specs.Classes.{class_keeps, each_type, type_is_ranged, ids_differ, components_differ}
+use Rattle.fc_types.specs.Classes.{class_keeps, each_type, type_is_ranged, ids_differ}
 use Rattle.fc_types.specs.Components.{ComponentDecl}
 use Rattle.fc_types.specs.Libraries.{IsLibrary}
-use Rattle.fc_types.specs.Sound.{IsSound, IsSoundInside, IsSoundStruct, IsSoundArray, SoundLayer}
+use Rattle.fc_types.specs.Sound.{IsSound, IsSoundInside, SoundLayer}
 use Rattle.fc_types.specs.Types.{nests, nests_layer, throughout, inside, field_ty, own_ids, own_range, own_keys, fits_inside, has_distinct_ids, is_in_range, has_atomic_keys}
 use Rattle.fc_types.specs.declared.class.Class.{Class}
 use Rattle.fc_types.specs.declared.class_rules.ClassRule.TheVariants.{Shallow, DistinctIds, Ranges, AtomicKeys}

@@ -1,5 +1,5 @@
 -- The types of the component model (RFC 5812, section 4.5), and the rules that a declared type keeps (this profile's own).
-use Rattle.std.specs.Prelude.{ℕ, ℤ, pos, negsuc, zero, suc, ◌+◌, ◌-◌, ◌*◌, ◌/◌, ◌^◌, ◌==◌, nat_eq, nat_le, int_le, Bool, true, false, not, ◌&&◌, ◌||◌, List, [], ◌∷◌, map, sum, Option, Some, None, if◌then◌else◌}
+use Rattle.std.specs.Prelude.{ℕ, ℤ, pos, negsuc, zero, suc, ◌+◌, ◌-◌, ◌*◌, ◌/◌, ◌^◌, ◌==◌, nat_eq, nat_le, int_le, Bool, true, false, ◌&&◌, ◌||◌, List, [], ◌∷◌, map, sum, Option, Some, None, if◌then◌else◌}
 use Rattle.std.specs.List.{list_all, find}
 use Rattle.fc_types.specs.Ids.{is_distinct}
 use Rattle.fc_types.specs.declared.ty.KeyDecl.{KeyDecl}
@@ -7,7 +7,7 @@ use Rattle.fc_types.specs.declared.ty.Field.{Field}
 use Rattle.fc_types.specs.declared.ty.Ty.{Ty}
 use Rattle.fc_types.specs.declared.ty.Ty.TheOpen.{Ty-F, Field-F}
 use Rattle.fc_types.specs.declared.ty.Ty.TheViews.{out-Ty, out-Field}
-use Rattle.fc_types.specs.declared.ty.Ty.TheFolds.{fold-Ty, fold-Field, para-Ty, para-Field}
+use Rattle.fc_types.specs.declared.ty.Ty.TheFolds.{fold-Ty, fold-Field, para-Ty}
 
 -- the number of a field
 abbrev pub field_id : Field → ℕ

@@ -1,4 +1,4 @@
-use Rattle.std.proofs.Common.{◌∙◌, ◌≢◌, ◌-◌, sym, ap, arith}
+use Rattle.std.proofs.Common.{◌∙◌, ◌-◌, sym, ap, arith}
 use Rattle.fc_types.specs.Types.{nests}
 use Rattle.fc_types.proofs.Nests.{nests_none, nests_struct, nests_array, nests_other}
 use Rattle.fc_types.proofs.depth.+depth.Goals as goal

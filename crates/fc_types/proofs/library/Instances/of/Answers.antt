@@ -1,4 +1,4 @@
-use Rattle.std.proofs.Common.{◌≡◌, ap, ◌∙◌, sym, subst, true, false, List, ℕ}
+use Rattle.std.proofs.Common.{ap, ◌∙◌, sym, subst}
 use Rattle.fc_types.specs.Libraries.{is_rising, AreInstances}
 use Rattle.fc_types.proofs.Rising.{instances_of, distinct_sorted, repeated_sorted}
 use Rattle.fc_types.proofs.library.Instances.of.Goals as goal

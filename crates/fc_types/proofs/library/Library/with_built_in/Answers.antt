@@ -1,5 +1,5 @@
-use Rattle.std.proofs.Common.{◌≡◌, sym, subst, ap}
-use Rattle.fc_types.specs.Libraries.{IsLibrary, AreKnown}
+use Rattle.std.proofs.Common.{subst}
+use Rattle.fc_types.specs.Libraries.{IsLibrary}
 use Rattle.fc_types.proofs.BuiltIns.{own_pairs, library_with, known_with}
 use Rattle.fc_types.proofs.library.Library.with_built_in.Goals as goal
 
