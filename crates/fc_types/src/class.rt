@@ -5,7 +5,7 @@ use crate::{Identified, Ty};
 use fc_base::{List, Text};
 use std::marker::Model;
 
-/// A component of a class (RFC 5812, section 4.7.2). Its ID is at least 1, and its access is 0 for none, 1 for reading,
+/// A component of a class (RFC 5812, section 4.7.4). Its ID is at least 1, and its access is 0 for none, 1 for reading,
 /// 2 for writing and 3 for both.
 #[derive(Debug, Drop)]
 pub struct Component {
@@ -42,7 +42,7 @@ impl Identified for Component {
     }
 }
 
-/// When an event happens, of the value of its target (RFC 5812, section 4.7.5).
+/// When an event happens, of the value of its target (RFC 5812, section 4.7.6).
 #[derive(Clone, Copy, Debug, PartialEq, Eq)]
 pub enum When {
     /// It has changed.
@@ -57,7 +57,7 @@ pub enum When {
     Less,
 }
 
-/// An event of a class (RFC 5812, section 4.7.5).
+/// An event of a class (RFC 5812, section 4.7.6).
 #[derive(Debug, Drop)]
 pub struct EventDecl {
     pub id: u32,

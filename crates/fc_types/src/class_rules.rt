@@ -1,9 +1,9 @@
 // The rules that each declared class keeps.
-ghost use Rattle.std.specs.Prelude.{◌≡◌, ◌+◌, min};
+ghost use Rattle.std.specs.Prelude.{◌≡◌, min};
 ghost use Rattle.std.specs.List.{list_all};
 ghost use Rattle.std.specs.Option.{option_copied};
 ghost use Rattle.fc_types.specs.Classes as spec;
-ghost use Rattle.fc_types.specs.Classes.{class_keeps, each_type, members};
+ghost use Rattle.fc_types.specs.Classes.{class_keeps, members};
 ghost use Rattle.fc_types.specs.Types.{nests, throughout};
 ghost use Rattle.fc_types.specs.TypeRules.{keeps};
 

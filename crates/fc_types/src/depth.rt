@@ -1,5 +1,5 @@
 // How deep a type nests, and how many fields stand in it.
-ghost use Rattle.std.specs.Prelude.{◌≡◌, ◌≤◌, ◌+◌, min, sum, map};
+ghost use Rattle.std.specs.Prelude.{◌≡◌, min, sum, map};
 ghost use Rattle.std.specs.List.{list_all};
 ghost use Rattle.fc_types.specs.Types.{field_ty, fields_at, fields_within, nests};
 

@@ -21,7 +21,7 @@ impl Identified for u32 {
     }
 }
 
-/// Whether no two items have one ID.
+/// Whether no two items have one ID. It compares each item with those after it.
 pub fn are_distinct<T: Identified>(items: &[T]) -> bool
     ensures { result ≡ is_distinct nat_eq (map T.id_of items.now) }
 {

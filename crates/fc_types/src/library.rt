@@ -1,5 +1,5 @@
 // A library of classes, and the instances that an element has of them.
-ghost use Rattle.std.specs.Prelude.{◌≡◌, ◌≢◌, ◌≤◌, length, ◌∷◌, [], ◌++◌, Some, None, true, false, IfOk, OnOk, IfErr, IsTrue, map};
+ghost use Rattle.std.specs.Prelude.{◌≡◌, ◌≢◌, ◌≤◌, ◌++◌, length, map, true, false, Some, None, IfOk, OnOk, IfErr};
 ghost use Rattle.std.specs.List.{list_all};
 ghost use Rattle.fc_types.specs.Libraries.{is_below, is_rising};
 ghost use Rattle.std.specs.List.Sorted.{IsPermutation};

@@ -1,5 +1,5 @@
 // The rules that each declared type keeps, and each type inside it, at any depth.
-ghost use Rattle.std.specs.Prelude.{◌≡◌, ◌&&◌};
+ghost use Rattle.std.specs.Prelude.{◌≡◌};
 ghost use Rattle.std.specs.List.{list_all};
 ghost use Rattle.fc_types.specs.Types as spec;
 ghost use Rattle.fc_types.specs.Types.{field_ty, inside, throughout};
