@@ -6,6 +6,7 @@ mod event;
 mod hub;
 mod listening;
 mod memory_hubs;
+mod recording;
 mod tcp;
 #[cfg(test)]
 mod tests;
