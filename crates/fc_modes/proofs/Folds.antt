@@ -1,9 +1,8 @@
 -- The fold of the operations and their codes, one more at a time.
-use Rattle.std.proofs.Common.{◌≡◌, ◌≢◌, ℕ, zero, suc, ◌+◌, ◌<◌, ◌≤◌, List, [], ◌∷◌, ◌++◌, length, take, drop, get_or, replicate, refl, sym, ap, subst, ◌∙◌, arith, Some, None, append_assoc, drop-cons, add-one}
-use Rattle.std.proofs.lemmas.List.{take_more, take-append-drop, replicate_more}
+use Rattle.std.proofs.Common.{◌≡◌, ◌≢◌, ℕ, zero, suc, ◌+◌, ◌<◌, ◌≤◌, List, [], ◌∷◌, ◌++◌, length, take, drop, get_or, replicate, refl, sym, ap, ◌∙◌, drop-cons}
+use Rattle.std.proofs.lemmas.List.{take_more, take-append-drop}
 use Rattle.std.proofs.lemmas.Grind.{fold-append}
-use Rattle.fc_modes.specs.declared.failure.Failure.{Failure}
-use Rattle.fc_modes.specs.Modes.{folded, codes_of, first_refused}
+use Rattle.fc_modes.specs.Modes.{folded, codes_of}
 use Rattle.fc_modes.specs.Reaching.{Refused, Done}
 use Rattle.fc_modes.proofs.Positions.{is_refused, position_among, position_none}
 use Rattle.std.specs.List.{position}
@@ -40,6 +39,9 @@ module _ {S O : Type 0} (effect : S → O → S × ℕ) where
         codes = ap (λ (xs : List O). codes_of effect s xs) more ∙ codes_more s (take at ops) (op ∷ []) ∙ ap (λ (p : S × ℕ). codes_of effect s (take at ops) ++ p.1 ∷ []) given;
         given = given;
       }
+
+  pub goes_on : (s : S) (ops : List O) (at : ℕ) (op : O) (code : ℕ) (before after : S) (old new : List ℕ) → new ≡ old ++ code ∷ [] → old ≡ codes_of effect s (take at ops) → Step s ops at op code before after → new ≡ codes_of effect s (take (at + 1) ops)
+  goes_on s ops at op code before after old new pushed so_far st = pushed ∙ ap (λ (cs : List ℕ). cs ++ code ∷ []) so_far ∙ sym st.codes
 
   -- the codes of all operations around that one
   codes_split : (s : S) (ops : List O) (at : ℕ) (op : O) (code : ℕ) (before after : S) → at < length ops → op ≡ get_or ops at op → Step s ops at op code before after → codes_of effect s ops ≡ codes_of effect s (take at ops) ++ code ∷ codes_of effect after (drop (suc at) ops)

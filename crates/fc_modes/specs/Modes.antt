@@ -1,6 +1,6 @@
 -- What a list of operations gives in each execution mode: RFC 5810, section 4.3.1.1. The code of the operations that are
 -- not done for the sake of another is this profile's own.
-use Rattle.std.specs.Prelude.{◌≡◌, ℕ, ◌+◌, ◌-◌, ◌==◌, Bool, not, List, [], ◌∷◌, ◌++◌, length, take, map, replicate, slice_index, Option, Some, None}
+use Rattle.std.specs.Prelude.{ℕ, ◌+◌, ◌-◌, ◌==◌, not, List, [], ◌∷◌, ◌++◌, length, take, map, replicate, slice_index, Option, Some, None}
 use Rattle.std.specs.List.{fold, position, items_where_true}
 use Rattle.fc_modes.specs.declared.mode.Mode.{Mode}
 use Rattle.fc_modes.specs.declared.mode.Mode.TheVariants.{AllOrNone, UntilFailure, Continue}
@@ -10,6 +10,10 @@ pub record Outcome (S O : Type 0) : Type 0 where
   pub state : S
   pub codes : List ℕ
   pub done : List O
+
+-- of operations and their codes, those that are done: 00 is success
+abbrev pub accepted : {O : Type 0} → List ℕ → List O → List O
+accepted codes ops = items_where_true (map (λ code. code == 0) codes) ops
 
 module _ {S O : Type 0} (effect : S → O → S × ℕ) where
   -- the state after the operations, each applied to the state that the one before it gave
@@ -24,10 +28,6 @@ module _ {S O : Type 0} (effect : S → O → S × ℕ) where
   -- the place of the first one that is refused
   abbrev pub first_refused : S → List O → Option ℕ
   first_refused s ops = position (λ code. not (code == 0)) (codes_of s ops)
-
-  -- those that are done
-  abbrev pub accepted : List ℕ → List O → List O
-  accepted codes ops = items_where_true (map (λ code. code == 0) codes) ops
 
   -- one code before a place, its own code at the place, and FF after it
   abbrev pub around : ℕ → ℕ → S → List O → List ℕ

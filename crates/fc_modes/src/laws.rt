@@ -9,6 +9,6 @@ use crate::Runner;
 /// operations whose code says so. Each operation has one code.
 pub fn done_is_what_is_kept<R: Runner>()
     ensures state { (mode : Mode) (s : R.State) (ops : List R.Op) → (outcome R.effect mode s ops).state ≡ folded R.effect s (outcome R.effect mode s ops).done }
-    ensures done { (mode : Mode) (s : R.State) (ops : List R.Op) → (outcome R.effect mode s ops).done ≡ accepted R.effect (outcome R.effect mode s ops).codes ops }
+    ensures done { (mode : Mode) (s : R.State) (ops : List R.Op) → (outcome R.effect mode s ops).done ≡ accepted (outcome R.effect mode s ops).codes ops }
     ensures codes { (mode : Mode) (s : R.State) (ops : List R.Op) → length (outcome R.effect mode s ops).codes ≡ length ops }
 {}

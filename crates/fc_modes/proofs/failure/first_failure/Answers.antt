@@ -1,4 +1,4 @@
-use Rattle.std.proofs.Common.{◌≡◌, ◌∙◌, ◌+◌, ◌++◌, ◌∷◌, [], ℕ, List, replicate, sym, ap, arith, not, true, false}
+use Rattle.std.proofs.Common.{◌≡◌, ◌∙◌, ◌++◌, ◌∷◌, [], ℕ, List, replicate, sym, ap}
 use Rattle.std.proofs.lemmas.List.{replicate_more}
 use Rattle.fc_modes.proofs.Folds.{step, refused_here, all_done}
 use Rattle.fc_modes.proofs.Positions.{bad, good}
