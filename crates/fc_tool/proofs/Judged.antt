@@ -4,7 +4,6 @@ use Rattle.std.proofs.lemmas.Bool.Decides.{nat_tests}
 use Rattle.fc_wire.proofs.Unique.{header_exists}
 use Rattle.fc_wire.specs.Bytes.{u16_at}
 use Rattle.fc_wire.specs.Frames.{frame_len}
-
 use Rattle.fc_wire.specs.declared.header.Header.{Header}
 use Rattle.fc_tool.specs.declared.faults.Fault.{Fault}
 use Rattle.fc_tool.specs.Faults.{IsHeartbeat, fault_of}

@@ -1,6 +1,12 @@
+pub mod Acts
+pub mod Bytes
+pub mod Cut
+pub mod Hearing
 pub mod Holding
 pub mod Judged
+pub mod OpenPeers
 pub mod Reaching
+pub mod Serving
 pub mod Shows
 pub mod Splitting
 pub mod Texts

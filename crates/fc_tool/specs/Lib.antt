@@ -1,5 +1,9 @@
+pub mod Acting
+pub mod ElementNode
 pub mod Faults
 pub mod Lending
+pub mod Nexts
+pub mod Places
 pub mod Run
 pub mod Show
 pub mod Splitting

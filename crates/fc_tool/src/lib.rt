@@ -1,11 +1,17 @@
 //! What the program `forces` does, over the source and the sink that it is handed.
 #![tactic(auto)]
 
+mod acting;
 mod command;
+mod delivery;
 mod faults;
 mod frames;
+mod inputs;
 mod laws;
 mod line;
+mod node;
+mod peers;
+mod serve;
 mod show;
 mod splitter;
 mod status;

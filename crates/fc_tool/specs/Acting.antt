@@ -1,0 +1,63 @@
+-- What a hub holds after acts and events: the acts stand behind those that were done, each with the number of events that
+-- were taken before it. This profile's own.
+use Rattle.std.specs.Prelude.{◌≡◌, ◌≢◌, ◌⊎◌, ℕ, ◌<◌, ◌+◌, List, [], ◌∷◌, ◌++◌, length, map, ⊤, Option, Some, None, Result, Ok, Err, option_map}
+use Rattle.fc_base.specs.Causes.{Rose}
+use Rattle.fc_hub.specs.Hubs.{Held, holds}
+use Rattle.fc_hub.specs.declared.event.HubEvent.{HubEvent}
+use Rattle.fc_hub.specs.declared.event.Act.{Act}
+use Rattle.fc_tool.specs.declared.serve.Served.{Served}
+use Rattle.fc_tool.specs.declared.serve.Served.TheVariants.{Over, Turns}
+use Rattle.fc_tool.specs.declared.acting.NodeStop.{NodeStop}
+use Rattle.fc_tool.specs.declared.acting.NodeStop.TheVariants.{HubFault, NoMemory}
+use Rattle.fc_tool.specs.ElementNode.{NodeState, acts_of, node_after, node_step, numbered}
+
+-- with these acts done
+abbrev pub acted : List Act → Held → Held
+acted acts held = holds held.coming held.taken (held.acts ++ numbered held.taken acts)
+
+-- exactly these acts were done
+abbrev pub Acts : Option Held → Option Held → List Act → Type 0
+Acts old new acts = new ≡ option_map (acted acts) old
+
+-- a front of these acts was done
+abbrev pub ActsFront : Option Held → Option Held → List Act → Type 0
+ActsFront old new acts = (front : List Act) × (back : List Act) × (acts ≡ front ++ back) × Acts old new front
+
+-- the count of the hub: it rose exactly where the hub failed
+abbrev pub HubCount : {T : Type 0} → Result T NodeStop → ℕ → ℕ → Type 0
+HubCount (Ok x) before now = now ≡ before
+HubCount (Err HubFault) before now = Rose before now
+HubCount (Err NoMemory) before now = now ≡ before
+
+-- Exactly these events were taken, and exactly the acts of a node that begins so were done.
+abbrev pub Went : Option Held → Option Held → NodeState → List HubEvent → Type 0
+Went None new n events = new ≡ None
+Went (Some held) new n events =
+    (coming : List HubEvent) × (held.coming ≡ events ++ coming)
+    × (new ≡ Some (holds coming (held.taken + length events) (held.acts ++ acts_of held.taken n events)))
+
+-- Those events and one more were taken, and of its acts a front was done.
+abbrev pub WentInto : Option Held → Option Held → NodeState → List HubEvent → HubEvent → Type 0
+WentInto None new n events last = new ≡ None
+WentInto (Some held) new n events last =
+    (coming : List HubEvent) × (front : List Act) × (back : List Act)
+    × (held.coming ≡ events ++ last ∷ coming) × ((node_step (node_after n events) last).acts ≡ front ++ back)
+    × (new ≡ Some (holds coming (held.taken + length events + 1) (held.acts ++ acts_of held.taken n events ++ numbered (held.taken + length events + 1) front)))
+
+-- a node stopped: between two events, or within the acts of one
+abbrev pub Broke : Option Held → Option Held → NodeState → List HubEvent → Type 0
+Broke old new n events = Went old new n events ⊎ ((last : HubEvent) × WentInto old new n events last)
+
+-- the events that were taken are all that the hub told
+abbrev pub AreAll : Option Held → List HubEvent → Type 0
+AreAll None events = ⊤
+AreAll (Some held) events = held.coming ≡ events
+
+-- How a node ends that takes at most so many events: the hub has no more, so many were taken, or it stopped. The node is
+-- then what those events made of it.
+abbrev pub ServeEnds : Result Served NodeStop → ℕ → NodeState → NodeState → Option Held → Option Held → Type 0
+ServeEnds (Ok Over) turns n last old new =
+    (events : List HubEvent) × (length events < turns) × Went old new n events × AreAll old events × (last ≡ node_after n events)
+ServeEnds (Ok Turns) turns n last old new =
+    (events : List HubEvent) × (length events ≡ turns) × Went old new n events × (last ≡ node_after n events)
+ServeEnds (Err stop) turns n last old new = (events : List HubEvent) × (length events < turns) × Broke old new n events

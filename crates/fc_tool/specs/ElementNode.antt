@@ -1,0 +1,152 @@
+-- A forwarding element behind a hub: which acts it makes of the events that it takes, in which order. This profile's own,
+-- over RFC 5810, section 6.1, on the frames of a stream.
+use Rattle.std.specs.Prelude.{◌≡◌, ℕ, zero, suc, ◌+◌, ◌==◌, Bool, true, false, not, nat_lt, if◌then◌else◌, List, [], ◌∷◌, ◌++◌, length, take, drop, map, Option, Some, None}
+use Rattle.fc_wire.specs.Frames.{frame_len}
+use Rattle.fc_hub.specs.declared.event.HubEvent.{HubEvent}
+use Rattle.fc_hub.specs.declared.event.HubEvent.TheVariants as event
+use Rattle.fc_hub.specs.declared.event.Act.{Act}
+use Rattle.fc_hub.specs.declared.event.Act.TheVariants.{Sent, Shut}
+use Rattle.fc_msg.specs.declared.message.Message.{Message}
+use Rattle.fc_msg.specs.Messages.{canonical}
+use Rattle.fc_msg.specs.Reading.{message_in}
+use Rattle.fc_element.specs.declared.input.ElIn.{ElIn}
+use Rattle.fc_element.specs.declared.input.ElIn.TheVariants.{Opened, Arrived, Closed, Moment}
+use Rattle.fc_element.specs.declared.input.Out.{Out}
+use Rattle.fc_element.specs.ElementMachine.{Turn, step}
+use Rattle.fc_element.specs.ElementState.{ElementState, opened}
+use Rattle.fc_tool.specs.declared.peers.Peer.{Peer}
+
+-- the whole frames at the front of bytes, and what stands behind them
+pub record Cut : Type 0 where
+  pub frames : List (List ℕ)
+  pub rest : List ℕ
+
+abbrev pub cut : List (List ℕ) → List ℕ → Cut
+cut frames rest = record { frames = frames; rest = rest }
+
+abbrev pub in_front : List ℕ → Cut → Cut
+in_front frame c = cut (frame ∷ c.frames) c.rest
+
+abbrev pub cut_by : ℕ → List ℕ → Cut
+cut_by zero bytes = cut [] bytes
+cut_by (suc fuel) bytes =
+    if nat_lt (length bytes) (frame_len bytes) then cut [] bytes
+    else in_front (take (frame_len bytes) bytes) (cut_by fuel (drop (frame_len bytes) bytes))
+
+unfoldable pub cut_of : List ℕ → Cut
+cut_of bytes = cut_by (length bytes) bytes
+
+abbrev pub frames : List ℕ → List (List ℕ)
+frames bytes = (cut_of bytes).frames
+
+abbrev pub rest : List ℕ → List ℕ
+rest bytes = (cut_of bytes).rest
+
+-- what goes out becomes the acts of the hub
+abbrev pub sent : List Out → List Act
+sent outs = map (λ o. Sent o.peer (canonical o.message)) outs
+
+-- what the frames of a peer make of an element: the acts, and whether the peer stays open
+pub record Heard : Type 0 where
+  pub element : ElementState
+  pub acts : List Act
+  pub stays : Bool
+
+abbrev pub heard : ElementState → List Act → Bool → Heard
+heard e acts stays = record { element = e; acts = acts; stays = stays }
+
+abbrev pub first_heard : Turn → Heard → Heard
+first_heard turn later = heard later.element (sent turn.outs ++ later.acts) later.stays
+
+-- Each frame that spells a message is an input; the first that spells none shuts the peer, and is the last of it.
+abbrev pub by_message : Option Message → ElementState → ℕ → (ElementState → Heard) → Heard
+by_message None e peer later = heard e (Shut peer ∷ []) false
+by_message (Some m) e peer later = first_heard (step e (Arrived peer m)) (later (step e (Arrived peer m)).state)
+
+abbrev pub hears : ElementState → ℕ → List (List ℕ) → Heard
+hears e peer [] = heard e [] true
+hears e peer (frame ∷ frames) = by_message (message_in frame) e peer (λ next. hears next peer frames)
+
+-- the node: the element, and the peers that are open, each with the bytes of it that are left, in the order of opening
+pub record NodeState : Type 0 where
+  pub element : ElementState
+  pub peers : List Peer
+
+abbrev pub node : ElementState → List Peer → NodeState
+node element peers = record { element = element; peers = peers }
+
+abbrev pub peer_with : ℕ → List ℕ → Peer
+peer_with number left = record { number = number; splitter = left }
+
+-- the bytes that are left of a peer, if it is open
+abbrev pub left_of : ℕ → List Peer → Option (List ℕ)
+left_of peer [] = None
+left_of peer (p ∷ ps) = if p.number == peer then Some p.splitter else left_of peer ps
+
+-- a peer with other bytes left
+abbrev pub put_left : ℕ → List ℕ → List Peer → List Peer
+put_left peer left [] = []
+put_left peer left (p ∷ ps) = if p.number == peer then peer_with peer left ∷ ps else p ∷ put_left peer left ps
+
+-- the others
+abbrev pub without : ℕ → List Peer → List Peer
+without peer [] = []
+without peer (p ∷ ps) = if p.number == peer then ps else p ∷ without peer ps
+
+-- what the node is after an event, and the acts that it makes, in this order
+pub record Move : Type 0 where
+  pub state : NodeState
+  pub acts : List Act
+
+abbrev pub move : NodeState → List Act → Move
+move state acts = record { state = state; acts = acts }
+
+-- an input of the element that goes with these peers
+abbrev pub after_turn : Turn → List Peer → Move
+after_turn turn peers = move (node turn.state peers) (sent turn.outs)
+
+abbrev pub after_heard : Heard → ℕ → List ℕ → List Peer → Move
+after_heard h peer left peers = move (node h.element (if h.stays then put_left peer left peers else without peer peers)) h.acts
+
+-- a peer that is open begins anew; at most 64 are open, and one more is shut at once
+abbrev pub on_opened : NodeState → ℕ → Option (List ℕ) → Move
+on_opened n peer (Some left) = after_turn (step n.element (Opened peer)) (put_left peer [] n.peers)
+on_opened n peer None =
+    if nat_lt (length n.peers) 64 then after_turn (step n.element (Opened peer)) (n.peers ++ peer_with peer [] ∷ [])
+    else move n (Shut peer ∷ [])
+
+-- bytes of a peer that is not open give nothing
+abbrev pub on_bytes : NodeState → ℕ → List ℕ → Option (List ℕ) → Move
+on_bytes n peer piece (Some left) =
+    after_heard (hears n.element peer (frames (left ++ piece))) peer (rest (left ++ piece)) n.peers
+on_bytes n peer piece None = move n []
+
+abbrev pub on_closed : NodeState → ℕ → Option (List ℕ) → Move
+on_closed n peer (Some left) = after_turn (step n.element (Closed peer)) (without peer n.peers)
+on_closed n peer None = move n []
+
+-- one event
+abbrev pub node_step : NodeState → HubEvent → Move
+node_step n (event.Opened peer) = on_opened n peer (left_of peer n.peers)
+node_step n (event.Bytes peer piece) = on_bytes n peer piece (left_of peer n.peers)
+node_step n (event.Closed peer) = on_closed n peer (left_of peer n.peers)
+node_step n (event.Moment moment) = after_turn (step n.element (Moment moment)) n.peers
+node_step n event.Over = move n []
+
+-- all events, in their order
+abbrev pub node_after : NodeState → List HubEvent → NodeState
+node_after n [] = n
+node_after n (e ∷ es) = node_after (node_step n e).state es
+
+-- acts with the number of events that were taken before each
+abbrev pub numbered : ℕ → List Act → List (ℕ × Act)
+numbered taken acts = map (λ act. (taken, act)) acts
+
+-- the acts of all events, where so many were taken before the first
+abbrev pub acts_of : ℕ → NodeState → List HubEvent → List (ℕ × Act)
+acts_of taken n [] = []
+acts_of taken n (e ∷ es) = numbered (taken + 1) (node_step n e).acts ++ acts_of (taken + 1) (node_step n e).state es
+
+-- the node of an element that was just made
+abbrev pub first_node : ℕ → ℕ → NodeState
+first_node id ce = node (opened id ce) []
