@@ -1,0 +1,54 @@
+// The commands, and why words are none.
+ghost use Rattle.std.specs.Prelude.{◌≡◌};
+
+use fc_base::{CeId, FeId, Memory, Text};
+use std::alloc::AllocError;
+
+/// What the words of a command line ask for.
+#[derive(Debug, Drop)]
+pub enum Command {
+    /// Writes each message that comes in as text.
+    Show,
+    /// Runs a forwarding element.
+    Element {
+        /// The element's own ID.
+        fe: FeId,
+        /// The ID of the control element that it is to connect to.
+        ce: CeId,
+        /// Where the element is reached, which is not empty.
+        address: Text,
+        /// How many connections are taken, from 1.
+        connections: u32,
+        /// How many events are taken, from 1.
+        turns: u32,
+    },
+}
+
+/// Why no command is given.
+#[derive(Clone, Copy, Debug, PartialEq, Eq)]
+pub enum WordFault {
+    /// The words are no command.
+    NoCommand,
+    /// There was no memory.
+    Memory,
+}
+
+impl From<AllocError> for WordFault {
+    ghost use Rattle.fc_words.specs.declared.commands.WordFault.TheVariants.{Memory};
+
+    ghost from_gives = { λ _ e. e ≡ Memory };
+
+    fn from(_: AllocError) -> Self {
+        WordFault::Memory
+    }
+}
+
+impl From<Memory> for WordFault {
+    ghost use Rattle.fc_words.specs.declared.commands.WordFault.TheVariants.{Memory};
+
+    ghost from_gives = { λ _ e. e ≡ Memory };
+
+    fn from(_: Memory) -> Self {
+        WordFault::Memory
+    }
+}

@@ -1,0 +1,15 @@
+//! What the words of a command line mean: the commands of the program with their values.
+#![tactic(auto)]
+
+mod commands;
+mod element;
+mod laws;
+mod positionals;
+mod reading;
+#[cfg(test)]
+mod tests;
+mod values;
+
+pub use commands::{Command, WordFault};
+pub use laws::{controller_words, decimal_words, words_of_element, words_of_show};
+pub use reading::command;

@@ -1,0 +1,106 @@
+use crate::{Command, WordFault, command};
+use std::alloc::Global;
+use std::test::Fail;
+
+// The words of a line, which stand between single spaces.
+fn words(alloc: Global, line: &str) -> Result<Vec<String>, Fail> {
+    let mut words = Vec::new(alloc);
+    for word in line.split(' ') {
+        words.push(String::from_str(alloc, word)?)?;
+    }
+    Ok(words)
+}
+
+#[test]
+fn commands_have_their_values(rt: HostRuntime) -> Result<(), Fail> {
+    let alloc = rt.alloc();
+    let given = words(alloc, "show")?;
+    assert!(rt; matches!(command(alloc, given.as_slice()), Ok(Command::Show)));
+    for (line, fe_meant, ce_meant, address_meant, connections_meant, turns_meant) in [
+        (
+            "element 7 4000000A 127.0.0.1:6704 1 200",
+            7u32,
+            0x4000_000Au32,
+            "127.0.0.1:6704",
+            1u32,
+            200u32,
+        ),
+        ("element 1 40000001 a 2 3", 1, 0x4000_0001, "a", 2, 3),
+        (
+            "element 1073741823 7fffffFf = 4294967295 4294967295",
+            0x3fff_ffff,
+            0x7fff_ffff,
+            "=",
+            4_294_967_295,
+            4_294_967_295,
+        ),
+    ] {
+        let given = words(alloc, line)?;
+        match command(alloc, given.as_slice()) {
+            Ok(
+                Command::Element {
+                    fe,
+                    ce,
+                    address,
+                    connections,
+                    turns,
+                },
+            ) => {
+                assert_eq!(rt; fe.get(), fe_meant, "{line}");
+                assert_eq!(rt; ce.get(), ce_meant, "{line}");
+                assert_eq!(rt; address.as_str(), address_meant, "{line}");
+                assert_eq!(rt; connections, connections_meant, "{line}");
+                assert_eq!(rt; turns, turns_meant, "{line}");
+            }
+            _ => assert!(rt; false, "{line}"),
+        }
+    }
+    Ok(())
+}
+
+#[test]
+fn other_words_are_no_command(rt: HostRuntime) -> Result<(), Fail> {
+    let alloc = rt.alloc();
+    let none: [String; 0] = [];
+    assert!(rt; matches!(command(alloc, &none), Err(WordFault::NoCommand)));
+    for line in [
+        "",
+        "Show",
+        "show more",
+        "show ",
+        "--help",
+        "show --help",
+        "-h",
+        "element",
+        "element 7 4000000A a 1",
+        "element 7 4000000A a 1 1 1",
+        "element 0 4000000A a 1 1",
+        "element 07 4000000A a 1 1",
+        "element +7 4000000A a 1 1",
+        "element 7x 4000000A a 1 1",
+        "element 1073741824 4000000A a 1 1",
+        "element 7 400000A a 1 1",
+        "element 7 04000000A a 1 1",
+        "element 7 +400000A a 1 1",
+        "element 7 4000000G a 1 1",
+        "element 7 3FFFFFFF a 1 1",
+        "element 7 80000001 a 1 1",
+        "element 7 40000100 a 1 1",
+        "element 7 4000000A  1 1",
+        "element 7 4000000A -a 1 1",
+        "element 7 4000000A - 1 1",
+        "element 7 4000000A a 0 1",
+        "element 7 4000000A a 1 0",
+        "element 7 4000000A a 01 1",
+        "element 7 4000000A a 4294967296 1",
+        "element 7 4000000A a 1 4294967296",
+        "element 7 4000000A a 1 -1",
+    ] {
+        let given = words(alloc, line)?;
+        assert!(rt;
+            matches!(command(alloc, given.as_slice()), Err(WordFault::NoCommand)),
+            "{line}"
+        );
+    }
+    Ok(())
+}
