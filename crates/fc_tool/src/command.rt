@@ -8,7 +8,8 @@ ghost use Rattle.fc_tool.specs.Run.{IsShow, UsageEnds, usage_status};
 ghost use Rattle.fc_tool.specs.Show.{ShowEnds, status_of};
 ghost use Rattle.fc_tool.specs.Stops.{FlushedAt, SinkCount};
 
-use crate::show::{LIMIT, Shown, show};
+use crate::input::LIMIT;
+use crate::show::{Shown, show};
 use crate::status::{DONE, NO_COMMAND, NO_MEMORY, NO_MESSAGE, READ_FAULT, TOO_LONG, WRITE_FAULT};
 use crate::stops::{Stop, finish, put};
 use fc_base::{Sink, Source};

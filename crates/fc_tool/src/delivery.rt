@@ -5,7 +5,7 @@ ghost use Rattle.fc_tool.specs.ElementNode.{frames, hears, rest};
 ghost use Rattle.fc_tool.specs.Nexts.{IsNextOf};
 
 use crate::acting::{NodeStop, shut};
-use crate::inputs::give;
+use crate::giving::give;
 use crate::splitter::{Splitter, whole_frame};
 use fc_base::Memory;
 use fc_element::{ElIn, Element};

@@ -4,9 +4,11 @@
 mod acting;
 mod command;
 mod delivery;
+mod element;
 mod faults;
 mod frames;
-mod inputs;
+mod input;
+mod giving;
 mod laws;
 mod line;
 mod node;

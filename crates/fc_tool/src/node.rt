@@ -5,7 +5,7 @@ ghost use Rattle.fc_tool.specs.ElementNode.{first_node, left_of, node, node_step
 
 use crate::acting::{NodeStop, shut};
 use crate::delivery::deliver;
-use crate::inputs::give;
+use crate::giving::give;
 use crate::peers::{Peer, put, remove};
 use crate::splitter::Splitter;
 use fc_base::{CeId, FeId, Memory};

@@ -6,18 +6,12 @@ ghost use Rattle.fc_tool.specs.Stops.{FlushedAt, SinkCount};
 
 use crate::faults::{Fault, heartbeat};
 use crate::frames::push_frames;
+use crate::input::{LIMIT, READS, next_piece};
 use crate::line::refusal_line;
 use crate::splitter::Splitter;
 use crate::stops::{Stop, finish, put};
 use fc_base::{Memory, Sink, Source, Trouble};
 use std::alloc::Global;
-
-/// So many bytes of the input are looked at, and one more shows that there are too many.
-pub const LIMIT: usize = 67_108_864;
-
-const READS: usize = LIMIT + 2;
-
-const PIECE: usize = 65_536;
 
 /// How `show` ended, where all was written.
 #[derive(Clone, Copy, Debug, PartialEq, Eq)]
@@ -79,15 +73,6 @@ fn show_all<S: Source, K: Sink>(alloc: Global, input: &mut S, out: &mut K) -> Re
         }
     }
     unreachable!()
-}
-
-// How many bytes are asked for next, where so many are left to the limit: one shows that there are too many.
-fn next_piece(left: usize) -> usize
-    ensures some { 0 < result }
-    ensures most { result ≤ 65536 }
-    ensures within { left ≢ 0 → result ≤ left }
-{
-    if left == 0 { 1 } else { left.min(PIECE) }
 }
 
 // Shows each whole frame of what was fed, up to the first that is refused: their lines are gathered, and written at once.
