@@ -1,0 +1,535 @@
+-- Each step of the world is moves of the core.
+use Rattle.std.proofs.Common.{◌≡◌, ℕ, ◌+◌, ◌*◌, ◌<◌, ◌≤◌, ◌==◌, ◌&&◌, ◌||◌, not, Bool, true, false, cond, nat_lt, List, [], ◌∷◌, ◌++◌, append_assoc, slice_get, map, Option, Some, None, is_none, is_some, ◌⊎◌, inl, inr, ⊎_elim, refl, sym, ap, ◌∙◌, subst, arith, eqb-true, eq-eqb}
+use Rattle.fc_protocol.specs.Core.{Absent, Decision, Complete, Abort, Core, start, among, put}
+use Rattle.fc_protocol.specs.Elements.{Txn, same, Stamp, Body, Fact, Opened_at, Prepared_at, Settled_at, Message, Setup, Request, Reply, Holds, Tells, Other_up, Other_down, Plain, Luck, only_says, Sent, sent, hears}
+use Rattle.fc_protocol.specs.Masters.{Job, Waiting, Peer, Master, new_master, find, or_next, decide_all, decided_job, due, sends_one, sends_all, heard, again, at_once, finish, new_job, begins, given_up, gives_up}
+use Rattle.fc_protocol.specs.World.{World, Begun, Step, Open, Deliver, Start, Stop, Begin, Give_up, Resend, Murmur, Change, murmurs, change_at, first_world, says, with_master, with_begun, speaks, to_master, to_element, delivered, delivers, starts, begin_at, give_up_at, resend_at, happens, run}
+use Rattle.fc_protocol.proofs.Puts.{put_here, both_first, both_second}
+use Rattle.fc_protocol.proofs.Basics.{In, in_left, in_either, in_get, all_in, all_on, both, same_true, same_of, put_other, put_rest, none_some, some_same}
+use Rattle.fc_protocol.proofs.Facts.{Past, past, Lives, Unique, Born, Named, SentFine, RequestFine, MessageFine, JobFine, PeerFine, MasterFine, LifeFine, Tied, Later, el_on, job_on, lives_on, Marks, GoodFact, GoodFacts, done}
+use Rattle.fc_protocol.proofs.Hearing.{went_if}
+use Rattle.fc_protocol.proofs.Telling.{life_on, sent_on, later_more, element_tied}
+use Rattle.fc_protocol.proofs.Keeps.{agree}
+use Rattle.fc_protocol.proofs.Jobs.{found_in, jobs_add}
+use Rattle.fc_protocol.proofs.Hears.{cond_all, hears_fine}
+use Rattle.fc_protocol.proofs.Deciding.{Decided, decide_fine, give_up_fine, later_ruled}
+use Rattle.fc_protocol.proofs.Sending.{Due, due_means, the_request, with_request, later_request, request_either, request_fine, unique_request, sends_fine}
+
+append_none : {A : Type 0} (xs : List A) → xs ++ [] ≡ xs
+append_none [] = refl
+append_none (x ∷ xs) = ap (λ ys. x ∷ ys) (append_none xs)
+
+-- two lives with one epoch are of one controller
+pub same_life : (h g : Past) (j k e : ℕ) → Lives h j e → Lives g k e → j ≡ k
+same_life h g j k e a b =
+    let r = a.0 in let s = b.0 in
+    let i : e ≡ 256 * r + j = a.2 in let n : e ≡ 256 * s + k = b.2 in let u : j < 256 = a.3 in let v : k < 256 = b.3 in omega arith
+
+in_among : (r : ℕ) (rs : List ℕ) → In r rs → among r rs ≡ true
+in_among r [] i = absurd i
+in_among r (s ∷ rs) i = ⊎_elim (λ e. ap (λ b. b || among r rs) (eq-eqb r s e)) (λ n. or_true (r == s) _ (in_among r rs n)) i
+  where
+    or_true : (a b : Bool) → b ≡ true → (a || b) ≡ true
+    or_true true b e = refl
+    or_true false b e = e
+
+pub not_false : (b : Bool) → not b ≡ true → b ≡ false
+not_false true e = cc
+not_false false e = refl
+
+none_or : {A : Type 0} (o : Option A) → ((a : A) → o ≡ Some a → ⊥) → o ≡ None
+none_or None f = refl
+none_or (Some a) f = absurd (f a refl)
+
+pub below : (m n : ℕ) → nat_lt m n ≡ true → m < n
+below m n h = grind arith
+
+-- a round that k has not used makes a new epoch
+pub fresh_life : (w : World) (c : Core) (k r j : ℕ) → k < 256 → among r (w.used k) ≡ false → Lives (past w c) j (256 * r + k) → ⊥
+fresh_life w c k r j small new v =
+    let s = v.0 in
+    let same : 256 * r + k ≡ 256 * s + j = v.2 in
+    let low : j < 256 = v.3 in
+    let one : j ≡ k = omega arith in
+    let two : s ≡ r = omega arith in
+    let here : In r (w.used k) = subst (λ n. In r (w.used n)) one (subst (λ n. In n (w.used j)) two v.1) in
+    let no : true ≡ false = sym (in_among r (w.used k) here) ∙ new in
+    cc
+
+module _ (x : Txn) (parts : List ℕ) where
+  master_is : (h : Past) (k : ℕ) (o : Option Master) (m : Master) → o ≡ Some m → LifeFine x parts h k o → MasterFine x parts h k m
+  master_is h k o m e f = subst (LifeFine x parts h k) e f
+
+  master_of : (w : World) (c : Core) (k : ℕ) (m : Master) (ss : List Sent) → Tied x parts (with_master w k m ss) c → MasterFine x parts (past (with_master w k m ss) c) k m
+  master_of w c k m ss t = subst (LifeFine x parts (past (with_master w k m ss) c) k) (put_here w.masters k (Some m)) (t.masters k)
+
+  other_of : (w : World) (c : Core) (k : ℕ) (m : Master) (ss : List Sent) → Tied x parts (with_master w k m ss) c → (j : ℕ) → (j ≡ k → ⊥) → LifeFine x parts (past (with_master w k m ss) c) j (w.masters j)
+  other_of w c k m ss t j n = subst (LifeFine x parts (past (with_master w k m ss) c) j) (put_other w.masters k (Some m) j n) (t.masters j)
+
+  enter : (w : World) (c : Core) (k : ℕ) (m : Master) → Tied x parts w c → w.masters k ≡ Some m → Tied x parts (with_master w k m w.sent) c
+  enter w c k m t e = record {
+    reached = t.reached;
+    elements = t.elements;
+    masters = put_rest (LifeFine x parts (past w c)) w.masters k (Some m) (master_is (past w c) k (w.masters k) m e (t.masters k)) (λ j _. t.masters j);
+    sent = t.sent;
+    unique = t.unique;
+    decided = t.decided;
+    owner = t.owner;
+    marks = t.marks;
+    good = t.good;
+  }
+
+  -- the master alone changes
+  swap : (w : World) (c : Core) (k : ℕ) (m n : Master) (ss : List Sent) → Tied x parts (with_master w k m ss) c → MasterFine x parts (past (with_master w k m ss) c) k n → Tied x parts (with_master w k n ss) c
+  swap w c k m n ss t f = record {
+    reached = t.reached;
+    elements = t.elements;
+    masters = put_rest (LifeFine x parts (past (with_master w k m ss) c)) w.masters k (Some n) f (other_of w c k m ss t);
+    sent = t.sent;
+    unique = t.unique;
+    decided = t.decided;
+    owner = t.owner;
+    marks = t.marks;
+    good = t.good;
+  }
+
+  -- no other master has this one's epoch
+  other_life : (h : Past) (j k : ℕ) (v m : Master) → MasterFine x parts h j v → MasterFine x parts h k m → (j ≡ k → ⊥) → v.epoch ≡ m.epoch → ⊥
+  other_life h j k v m f g n e = n (same_life h h j k m.epoch (subst (Lives h j) e f.life) g.life)
+
+  -- the master's jobs change, with the core
+  decided_tied : (w : World) (c : Core) (k : ℕ) (m : Master) (ss : List Sent) (js : List Job) → Tied x parts (with_master w k m ss) c → (d : Decided x parts (past (with_master w k m ss) c) m.epoch m.begun js) → Tied x parts (with_master w k (record m { jobs = js }) ss) d.core
+  decided_tied w c k m ss js t d =
+      let h = past (with_master w k m ss) c in
+      let g = past (with_master w k (record m { jobs = js }) ss) d.core in
+      let l = later_ruled x parts h d.core m.epoch d.ruled in
+      let f = master_of w c k m ss t in
+      record {
+        reached = d.ruled.reached t.reached;
+        elements = λ q. el_on x parts h g l q (w.at q) (c.at q) (d.core.at q) (d.ruled.at q) (t.elements q);
+        masters = put_rest (LifeFine x parts g) w.masters k (Some (record m { jobs = js }))
+            (record { life = f.life; jobs = d.jobs; peers = λ q. record { waits = (f.peers q).waits; counts = (f.peers q).counts } })
+            (λ j n. life_on x parts h g l j (w.masters j) (λ v e. record {
+              decided = d.ruled.others v.epoch (other_life h j k v m (master_is h j (w.masters j) v e (other_of w c k m ss t j n)) f n);
+              asked = λ p i s b a _. a;
+              born = λ _ b. b;
+            }) (other_of w c k m ss t j n));
+        sent = λ s i. sent_on x parts h g l s (t.sent s i);
+        unique = t.unique;
+        decided = λ e r i. ⊎_elim (λ b. (k, subst (Lives h k) (sym (eqb-true e m.epoch b)) f.life))
+            (λ b. t.decided e r (sym (d.ruled.others e (λ s. let z : true ≡ false = sym (eq-eqb e m.epoch s) ∙ b in cc)) ∙ i)) (both (e == m.epoch));
+        owner = t.owner;
+        marks = λ q. subst (Marks x parts w.facts q) (sym (d.ruled.at q)) (t.marks q);
+        good = t.good;
+      }
+
+  -- one message that is due
+  send_tied : (w : World) (c : Core) (k : ℕ) (m : Master) (ss : List Sent) (p : ℕ) (o : Option Body) → Tied x parts (with_master w k m ss) c → ((b : Body) → o ≡ Some b → Due x parts (past (with_master w k m ss) c) m.epoch p b) → Tied x parts (with_master w k (sends_one k m p o).master (ss ++ (sends_one k m p o).says)) c
+  send_tied w c k m ss p None t e = subst (λ v. Tied x parts (with_master w k m v) c) (sym (append_none ss)) t
+  send_tied w c k m ss p (Some b) t e =
+      let h = past (with_master w k m ss) c in
+      let g = with_request x parts h k m p b in
+      let f = master_of w c k m ss t in
+      let d = e b refl in
+      let l = later_request x parts h k m p b in
+      record {
+        reached = t.reached;
+        elements = λ q. el_on x parts h g l q (w.at q) (c.at q) (c.at q) refl (t.elements q);
+        masters = put_rest (LifeFine x parts g) w.masters k (Some (sends_one k m p (Some b)).master) (sends_fine x parts h k m p b f)
+            (λ j n. life_on x parts h g l j (w.masters j) (λ v i. record {
+              decided = refl;
+              asked = λ q r s a z y. ⊎_elim (λ old. old) (λ new.
+                  let same : s.life ≡ m.epoch = life_in q r s a b (m.epoch) new in
+                  absurd (other_life h j k v m (master_is h j (w.masters j) v i (other_of w c k m ss t j n)) f n (sym y ∙ same)))
+                  (request_either x parts h k m p b _ z);
+              born = λ _ u. u;
+            }) (other_of w c k m ss t j n));
+        sent = λ s i. ⊎_elim (λ old. sent_on x parts h g l s (t.sent s old))
+            (λ new. sent_on x parts h g l s (subst (SentFine x parts h) (sym new) (request_fine x parts h k m p b f d))) (request_either x parts h k m p b s i);
+        unique = unique_request x parts h k m p b f t.sent d t.unique;
+        decided = t.decided;
+        owner = t.owner;
+        marks = t.marks;
+        good = t.good;
+      }
+    where
+      life_in : (q r : ℕ) (s : Stamp) (a b : Body) (e : ℕ) → sent q r (Request s a) ≡ the_request x parts (past (with_master w k m ss) c) k m p b → s.life ≡ m.epoch
+      life_in q r s a b e i =
+          let u : Request s a ≡ (the_request x parts (past (with_master w k m ss) c) k m p b).message = ap (λ (v : Sent). v.message) i in cc
+
+  send_all_tied : (w : World) (c : Core) (k : ℕ) (es : List ℕ) (m : Master) (ss : List Sent) → Tied x parts (with_master w k m ss) c → Tied x parts (with_master w k (sends_all k es m).master (ss ++ (sends_all k es m).says)) c
+  send_all_tied w c k [] m ss t = subst (λ v. Tied x parts (with_master w k m v) c) (sym (append_none ss)) t
+  send_all_tied w c k (p ∷ ps) m ss t =
+      let r = sends_one k m p (due m p) in
+      let u = send_tied w c k m ss p (due m p) t (λ b e. due_means x parts (past (with_master w k m ss) c) m p k b (master_of w c k m ss t) e) in
+      let v = send_all_tied w c k ps r.master (ss ++ r.says) u in
+      subst (λ z. Tied x parts (with_master w k (sends_all k ps r.master).master z) c) (append_assoc ss r.says (sends_all k ps r.master).says) v
+
+  abbrev pub Goes : World → Type 0
+  Goes w = (c : Core) × Tied x parts w c
+
+  finish_tied : (w : World) (c : Core) (k : ℕ) (es : List ℕ) (m : Master) (ss : List Sent) → Tied x parts (with_master w k m ss) c → Goes (with_master w k (finish k es m).master (ss ++ (finish k es m).says))
+  finish_tied w c k es m ss t =
+      let f = master_of w c k m ss t in
+      let d = decide_fine x parts (past (with_master w k m ss) c) m.epoch m.begun m.jobs f.jobs in
+      (d.core, send_all_tied w d.core k es (decide_all m) ss (decided_tied w c k m ss (map (λ j. decided_job m.epoch j.decision j) m.jobs) t d))
+
+  -- messages that are no new requests
+  says_tied : (w : World) (c : Core) (xs : List Sent) → Tied x parts w c → ((s : Sent) → In s xs → SentFine x parts (past (says w xs) c) s) → Unique (w.sent ++ xs) → ((p k : ℕ) (s : Stamp) (b : Body) → In (sent p k (Request s b)) xs → In (sent p k (Request s b)) w.sent) → Tied x parts (says w xs) c
+  says_tied w c xs t f u o =
+      let h = past w c in
+      let g = past (says w xs) c in
+      let l = later_more x parts h xs in
+      record {
+        reached = t.reached;
+        elements = λ q. el_on x parts h g l q (w.at q) (c.at q) (c.at q) refl (t.elements q);
+        masters = λ j. life_on x parts h g l j (w.masters j) (λ v _. record { decided = refl; asked = λ p k s b a _. ⊎_elim (λ i. i) (λ i. o p k s b i) (in_either _ w.sent xs a); born = λ _ b. b }) (t.masters j);
+        sent = λ s i. ⊎_elim (λ n. sent_on x parts h g l s (t.sent s n)) (λ n. f s n) (in_either s w.sent xs i);
+        unique = u;
+        decided = t.decided;
+        owner = t.owner;
+        marks = t.marks;
+        good = t.good;
+      }
+
+  -- messages that were sent before, or are no business of a transaction
+  abbrev Noise : Sent → Type 0
+  Noise s = (s.message ≡ Setup) ⊎ ((s.message ≡ Other_up) ⊎ (s.message ≡ Other_down))
+
+  noise_fine : (h : Past) (s : Sent) → Noise s → SentFine x parts h s
+  noise_fine h s n = ⊎_elim (λ e. subst (MessageFine x parts h s.element s.controller) (sym e) tt) (λ r. ⊎_elim (λ e. subst (MessageFine x parts h s.element s.controller) (sym e) tt) (λ e. subst (MessageFine x parts h s.element s.controller) (sym e) tt) r) n
+
+  no_request : (p k : ℕ) (s : Stamp) (b : Body) → Noise (sent p k (Request s b)) → ⊥
+  no_request p k s b n = ⊎_elim (λ e. cc) (λ r. ⊎_elim (λ e. cc) (λ e. cc) r) n
+
+  repeat_tied : (w : World) (c : Core) (xs : List Sent) → Tied x parts w c → ((s : Sent) → In s xs → In s w.sent ⊎ Noise s) → Tied x parts (says w xs) c
+  repeat_tied w c xs t o =
+      let old = λ (p k : ℕ) (s : Stamp) (b : Body) (i : In (sent p k (Request s b)) xs). ⊎_elim (λ n. n) (λ n. absurd (no_request p k s b n)) (o _ i) in
+      let back = λ (p k : ℕ) (s : Stamp) (b : Body) (i : In (sent p k (Request s b)) (w.sent ++ xs)). ⊎_elim (λ n. n) (λ n. old p k s b n) (in_either _ w.sent xs i) in
+      says_tied w c xs t (λ s i. ⊎_elim (λ n. sent_on x parts (past w c) (past (says w xs) c) (later_more x parts (past w c) xs) s (t.sent s n)) (λ n. noise_fine (past (says w xs) c) s n) (o s i))
+      (λ p j k s a b i n e. t.unique p j k s a b (back p j s a i) (back p k s b n) e) old
+
+  again_old : (h : Past) (k p e : ℕ) (y : Peer) (o : Option Waiting) → y.waits ≡ o → PeerFine x parts h k e p y → (s : Sent) → In s (again k p o) → In s h.sent
+  again_old h k p e y None i f s n = absurd n
+  again_old h k p e y (Some o) i f s n = ⊎_elim (λ u. subst (λ v. In v h.sent) (sym u) (f.waits o i).1) (λ u. absurd u) n
+
+  at_once_old : (h : Past) (k p : ℕ) (m : Master) (t : Message) → MasterFine x parts h k m → (s : Sent) → In s (at_once k m p t) → In s h.sent ⊎ Noise s
+  at_once_old h k p m Setup f s n = ⊎_elim (λ e. inr (inr (inr (ap (λ (v : Sent). v.message) e)))) (λ i. inl (again_old h k p m.epoch (m.at p) (m.at p).waits refl (f.peers p) s i)) n
+  at_once_old h k p m (Request r b) f s n = absurd n
+  at_once_old h k p m (Reply r b) f s n = absurd n
+  at_once_old h k p m (Holds r e b) f s n = absurd n
+  at_once_old h k p m (Tells r e b) f s n = absurd n
+  at_once_old h k p m Other_up f s n = ⊎_elim (λ e. inr (inr (inr (ap (λ (v : Sent). v.message) e)))) (λ i. absurd i) n
+  at_once_old h k p m Other_down f s n = absurd n
+
+  murmurs_noise : (p : ℕ) (ks : List ℕ) (s : Sent) → In s (murmurs p ks) → Noise s
+  murmurs_noise p [] s i = absurd i
+  murmurs_noise p (k ∷ ks) s i = ⊎_elim (λ e. inr (inl (ap (λ (v : Sent). v.message) e))) (λ n. murmurs_noise p ks s n) i
+
+  murmurs_tied : (w : World) (c : Core) (p : ℕ) (ks : List ℕ) → Tied x parts w c → Tied x parts (says w (murmurs p ks)) c
+  murmurs_tied w c p ks t = repeat_tied w c (murmurs p ks) t (λ s i. inr (murmurs_noise p ks s i))
+
+  speak_tied : (w : World) (c : Core) (k : ℕ) (es : List ℕ) (m : Master) (first : List Sent) → Tied x parts (with_master w k m (w.sent ++ first)) c → Goes (speaks w k first (finish k es m))
+  speak_tied w c k es m first t = finish_tied w c k es m (w.sent ++ first) t
+
+  to_master_tied : (w : World) (c : Core) (p k : ℕ) (i : Message) (o : Option Master) → Tied x parts w c → w.masters k ≡ o → In (sent p k i) w.sent → Goes (to_master w p k i o)
+  to_master_tied w c p k i None t e n = (c, t)
+  to_master_tied w c p k i (Some m) t e n =
+      let first = at_once k m p i in
+      let a = enter w c k m t e in
+      let b = repeat_tied (with_master w k m w.sent) c first a (at_once_old (past w c) k p m i (master_of w c k m w.sent a)) in
+      let h = past (with_master w k m (w.sent ++ first)) c in
+      let f = hears_fine x parts h k m p i (master_of w c k m (w.sent ++ first) b) b.sent b.unique (b.sent (sent p k i) (in_left _ w.sent first n)) in
+      speak_tied w c k w.elements (heard m p i) first (swap w c k m (heard m p i) (w.sent ++ first) b f)
+
+  delivered_tied : (w : World) (c : Core) (ok : Luck) (p k : ℕ) (i : Message) → Tied x parts w c → In (sent p k i) w.sent → Goes (delivered w ok p k i)
+  delivered_tied w c ok p k Setup t n = to_master_tied w c p k Setup (w.masters k) t refl n
+  delivered_tied w c ok p k (Request s b) t n =
+      let r : RequestFine x parts (past w c) k p s b = t.sent (sent p k (Request s b)) n in
+      let u = went_if x parts (past w c) w.facts p k (w.at p) ok s b ok.deaf (record { reached = t.reached; marks = t.marks; good = t.good }) (t.elements p) n r.means in
+      let heard = cond ok.deaf (only_says (w.at p) None) (hears p (w.at p) k ok s b) in
+      (u.core, murmurs_tied (to_element w p k heard) u.core p ok.others (element_tied x parts w c p k heard t u))
+  delivered_tied w c ok p k (Reply s b) t n = to_master_tied w c p k (Reply s b) (w.masters k) t refl n
+  delivered_tied w c ok p k (Holds s e b) t n = to_master_tied w c p k (Holds s e b) (w.masters k) t refl n
+  delivered_tied w c ok p k (Tells s e b) t n = to_master_tied w c p k (Tells s e b) (w.masters k) t refl n
+  delivered_tied w c ok p k Other_up t n = to_master_tied w c p k Other_up (w.masters k) t refl n
+  delivered_tied w c ok p k Other_down t n = (c, murmurs_tied w c p ok.others t)
+
+  delivers_tied : (w : World) (c : Core) (ok : Luck) (i : ℕ) (o : Option Sent) → Tied x parts w c → slice_get w.sent i ≡ o → Goes (delivers w ok o)
+  delivers_tied w c ok i None t e = (c, t)
+  delivers_tied w c ok i (Some s) t e = delivered_tied w c ok s.element s.controller s.message t (in_get s w.sent i e)
+
+  -- a life begins
+  start_tied : (w : World) (c : Core) (k r : ℕ) → Tied x parts w c → k < 256 → among r (w.used k) ≡ false → Tied x parts (starts w k r) c
+  start_tied w c k r t small new =
+      let h = past w c in
+      let g = past (starts w k r) c in
+      let e = 256 * r + k in
+      let l : Later x parts h g = record {
+        decided = λ _ _ i. i;
+        told = λ _ i. i;
+        final = λ q s o i. i;
+        sent = λ _ i. i;
+        used = λ j n. put_rest (λ j v. In n (w.used j) → In n v) w.used k (r ∷ w.used k) (λ i. inr i) (λ _ _ i. i) j;
+        born = λ b. b;
+      } in
+      let fresh = λ (j : ℕ) (v : Lives h j e). fresh_life w c k r j small new v in
+      let life : Lives g k e = (r, subst (In r) (sym (put_here w.used k (r ∷ w.used k))) (inl refl), refl, small) in
+      record {
+        reached = t.reached;
+        elements = λ q. el_on x parts h g l q (w.at q) (c.at q) (c.at q) refl (t.elements q);
+        masters = put_rest (LifeFine x parts g) w.masters k (Some (new_master e))
+            (record {
+              life = life;
+              jobs = record {
+                decided = none_or (c.decided e) (λ d i. let v = t.decided e d i in fresh v.0 v.1);
+                each = tt;
+                once = tt;
+                numbers = λ i b. let v = t.owner b in absurd (fresh v.0 (subst (Lives h v.0) (sym i) v.1));
+              };
+              peers = λ q. record {
+                waits = λ o i. none_some o i;
+                counts = λ j s b a i. let f : RequestFine x parts h j q s b = t.sent (sent q j (Request s b)) a in absurd (fresh j (subst (Lives h j) i f.life));
+              };
+            })
+            (λ j n. life_on x parts h g l j (w.masters j) (λ v _. record { decided = refl; asked = λ p i s b a _. a; born = λ _ b. b }) (t.masters j));
+        sent = λ s i. sent_on x parts h g l s (t.sent s i);
+        unique = t.unique;
+        decided = λ f d i. let v = t.decided f d i in (v.0, lives_on x parts h g l v.0 f v.1);
+        owner = λ b. let v = t.owner b in (v.0, lives_on x parts h g l v.0 x.epoch v.1);
+        marks = t.marks;
+        good = t.good;
+      }
+
+  stop_tied : (w : World) (c : Core) (k : ℕ) → Tied x parts w c → Tied x parts (record w { masters = put w.masters k None }) c
+  stop_tied w c k t = record {
+    reached = t.reached;
+    elements = t.elements;
+    masters = put_rest (LifeFine x parts (past w c)) w.masters k None tt (λ j _. t.masters j);
+    sent = t.sent;
+    unique = t.unique;
+    decided = t.decided;
+    owner = t.owner;
+    marks = t.marks;
+    good = t.good;
+  }
+
+  some_or : (b : Bool) (o : Option Job) (j : Job) → b ≡ true → is_some (or_next o (cond b (Some j) None)) ≡ true
+  some_or true None j e = refl
+  some_or true (Some i) j e = refl
+  some_or false o j e = cc
+
+  or_some : (o t : Option Job) → is_some o ≡ true → is_some (or_next o t) ≡ true
+  or_some None t e = cc
+  or_some (Some j) t e = refl
+
+  -- a transaction is begun
+  begin_tied : (w : World) (c : Core) (k : ℕ) (m : Master) (ps : List ℕ) (changes : ℕ → ℕ) (y : Txn) → y ≡ record { epoch = m.epoch; number = m.begun + 1 } → Tied x parts (with_master w k m w.sent) c → Named x parts (record { txn = y; parts = ps } ∷ w.begun)
+      → Tied x parts (with_master (with_begun w (record { txn = y; parts = ps })) k (record m { begun = m.begun + 1; jobs = m.jobs ++ new_job y ps changes ∷ [] }) w.sent) c
+  begin_tied w c k m ps changes y made t named =
+      let b : Begun = record { txn = y; parts = ps } in
+      let n = record m { begun = m.begun + 1; jobs = m.jobs ++ new_job y ps changes ∷ [] } in
+      let h = past w c in
+      let g = past (with_master (with_begun w b) k n w.sent) c in
+      let l : Later x parts h g = record { decided = λ _ _ i. i; told = λ _ i. i; final = λ q s o i. i; sent = λ _ i. i; used = λ _ _ i. i; born = λ o. (o.0, inr o.1, o.2) } in
+      let f = master_of w c k m w.sent t in
+      let at_own = λ (i : y ≡ x). ap (λ (v : Txn). v.epoch) (sym made) ∙ ap (λ (v : Txn). v.epoch) i in
+      let number = λ (i : y ≡ x). ap (λ (v : Txn). v.number) (sym made) ∙ ap (λ (v : Txn). v.number) i in
+      let born_or : Born x parts g → (y ≡ x) ⊎ Born x parts h = λ o. ⊎_elim (λ i. inl (ap (λ (v : Begun). v.txn) (sym i) ∙ o.2)) (λ i. inr (o.0, i, o.2)) o.1 in
+      record {
+        reached = t.reached;
+        elements = λ q. el_on x parts h g l q (w.at q) (c.at q) (c.at q) refl (t.elements q);
+        masters = put_rest (LifeFine x parts g) w.masters k (Some n)
+            (record {
+              life = f.life;
+              jobs = jobs_add x parts g m.epoch (m.begun + 1) m.jobs (new_job y ps changes) (all_on _ _ m.jobs (job_on x parts h g l m.epoch) f.jobs.each) f.jobs.once f.jobs.decided refl
+                  (λ s. none_or (find x m.jobs) (λ j i.
+                  let u : y ≡ x = sym (same_true x y s) in
+                  let r = found_in x m.jobs j i in
+                  let old = (all_in (JobFine x parts h m.epoch) j m.jobs f.jobs.each r.0 r.1).born in
+                  let low : x.number ≤ m.begun = (f.jobs.numbers (at_own u) old).0 in
+                  let now : m.begun + 1 ≡ x.number = number u in
+                  absurd (omega arith)))
+                  (λ u. record {
+                    named = named b (inl refl) u;
+                    born = (b, inl refl, u);
+                    low = let same : m.epoch ≡ x.epoch = at_own u in omega arith;
+                    mine = λ _. at_own u;
+                    other = λ v. cc;
+                    answers = λ p a v. cc;
+                    settled = λ p v. cc;
+                  })
+                  (λ i o. ⊎_elim (λ u. let now : m.begun + 1 ≡ x.number = number u in (omega arith, some_or (same x y) (find x m.jobs) (new_job y ps changes) (same_of x y (sym u))))
+                  (λ u. let v = f.jobs.numbers i u in let low : x.number ≤ m.begun = v.0 in (omega arith, or_some (find x m.jobs) _ v.1)) (born_or o));
+              peers = λ q. record { waits = (f.peers q).waits; counts = (f.peers q).counts };
+            })
+            (λ j d. life_on x parts h g l j (w.masters j) (λ v i. record {
+              decided = refl;
+              asked = λ p i s b a _. a;
+              born = λ u o. ⊎_elim (λ r. absurd (other_life h j k v m (master_is h j (w.masters j) v i (other_of w c k m w.sent t j d)) f d (u ∙ sym (at_own r)))) (λ r. r) (born_or o);
+            }) (other_of w c k m w.sent t j d));
+        sent = λ s i. sent_on x parts h g l s (t.sent s i);
+        unique = t.unique;
+        decided = t.decided;
+        owner = λ o. ⊎_elim (λ u. (k, subst (Lives g k) (at_own u) f.life)) (λ u. t.owner u) (born_or o);
+        marks = t.marks;
+        good = t.good;
+      }
+
+  silent : (w : World) (c : Core) (k : ℕ) (m : Master) → Tied x parts (with_master w k m w.sent) c → Tied x parts (with_master w k m (w.sent ++ [])) c
+  silent w c k m t = subst (λ v. Tied x parts (with_master w k m v) c) (sym (append_none w.sent)) t
+
+  begin_at_tied : (w : World) (c : Core) (k : ℕ) (ps : List ℕ) (changes : ℕ → ℕ) (o : Option Master) → Tied x parts w c → w.masters k ≡ o → Named x parts (begin_at w k ps changes o).begun → Goes (begin_at w k ps changes o)
+  begin_at_tied w c k ps changes None t e n = (c, t)
+  begin_at_tied w c k ps changes (Some m) t e n =
+      let b : Begun = record { txn = record { epoch = m.epoch; number = m.begun + 1 }; parts = ps } in
+      let u = begin_tied w c k m ps changes b.txn refl (enter w c k m t e) n in
+      speak_tied (with_begun w b) c k w.elements (begins m ps changes) [] (silent (with_begun w b) c k (begins m ps changes) u)
+
+  give_up_at_tied : (w : World) (c : Core) (k : ℕ) (y : Txn) (o : Option Master) → Tied x parts w c → w.masters k ≡ o → Goes (give_up_at w k y o)
+  give_up_at_tied w c k y None t e = (c, t)
+  give_up_at_tied w c k y (Some m) t e =
+      let a = enter w c k m t e in
+      let f = master_of w c k m w.sent a in
+      let d = give_up_fine x parts (past w c) m.epoch m.begun m.jobs y f.jobs in
+      speak_tied w d.core k w.elements (gives_up m y) [] (silent w d.core k (gives_up m y) (decided_tied w c k m w.sent (map (given_up y) m.jobs) a d))
+
+  resend_at_tied : (w : World) (c : Core) (k p : ℕ) (o : Option Master) → Tied x parts w c → w.masters k ≡ o → Tied x parts (resend_at w k p o) c
+  resend_at_tied w c k p None t e = t
+  resend_at_tied w c k p (Some m) t e =
+      let f = master_is (past w c) k (w.masters k) m e (t.masters k) in
+      repeat_tied w c (again k p (m.at p).waits) t (λ s i. inl (again_old (past w c) k p m.epoch (m.at p) (m.at p).waits refl (f.peers p) s i))
+
+  open_tied : (w : World) (c : Core) (p k : ℕ) → Tied x parts w c → Tied x parts (says w (sent p k Setup ∷ [])) c
+  open_tied w c p k t = repeat_tied w c (sent p k Setup ∷ []) t (λ s i. ⊎_elim (λ e. inr (inl (ap (λ (v : Sent). v.message) e))) (λ n. absurd n) i)
+
+  -- a plain change is sent at once
+  change_at_tied : (w : World) (c : Core) (k p : ℕ) (o : Option Master) → Tied x parts w c → w.masters k ≡ o → Tied x parts (change_at w k p o) c
+  change_at_tied w c k p None t e = t
+  change_at_tied w c k p (Some m) t e =
+      cond_all (λ v. Tied x parts v c) (is_none (m.at p).waits) (speaks w k [] (sends_one k m p (Some Plain))) w
+      (λ _. send_tied w c k m (w.sent ++ []) p (Some Plain) (silent w c k m (enter w c k m t e)) (λ b i. subst (Due x parts (past (with_master w k m (w.sent ++ [])) c) m.epoch p) (some_same _ _ i) (tt, (λ u. cc)))) (λ _. t)
+
+  pub happens_tied : (w : World) (c : Core) (s : Step) → Named x parts (happens w s).begun → Tied x parts w c → Goes (happens w s)
+  happens_tied w c (Open p k) n t = (c, open_tied w c p k t)
+  happens_tied w c (Murmur p ks) n t = (c, murmurs_tied w c p ks t)
+  happens_tied w c (Change k p) n t = (c, change_at_tied w c k p (w.masters k) t refl)
+  happens_tied w c (Deliver i ok) n t = delivers_tied w c ok i (slice_get w.sent i) t refl
+  happens_tied w c (Start k r) n t =
+      cond_all Goes (nat_lt k 256 && (is_none (w.masters k) && not (among r (w.used k)))) (starts w k r) w
+      (λ e. (c, start_tied w c k r t (below _ _ (both_first (nat_lt k 256) _ e)) (not_false _ (both_second (is_none (w.masters k)) _ (both_second (nat_lt k 256) _ e))))) (λ _. (c, t))
+  happens_tied w c (Stop k) n t = (c, stop_tied w c k t)
+  happens_tied w c (Begin k ps changes) n t = begin_at_tied w c k ps changes (w.masters k) t refl n
+  happens_tied w c (Give_up k y) n t = give_up_at_tied w c k y (w.masters k) t refl
+  happens_tied w c (Resend k p) n t = (c, resend_at_tied w c k p (w.masters k) t refl)
+
+  pub first_tied : (es : List ℕ) → Tied x parts (first_world es) start
+  first_tied es = record {
+    reached = ([], refl);
+    elements = λ p. record { epoch = refl; state = refl; entries = tt; single = tt; kept = tt };
+    masters = λ _. tt;
+    sent = λ s i. absurd i;
+    unique = λ p j k s a b i n e. absurd i;
+    decided = λ e d i. none_some d i;
+    owner = λ b. absurd b.1;
+    marks = λ p. record { opened = λ e. cc; prepared = λ e. cc; settled = λ d i. absurd i; ended = λ d e. start_over d e };
+    good = tt;
+  }
+    where
+      start_over : {P : Type 0} (d : Decision) → Absent ≡ done d → P
+      start_over Complete e = cc
+      start_over Abort e = cc
+
+  begun_master : (w : World) (p k : ℕ) (i : Message) (o : Option Master) → (to_master w p k i o).begun ≡ w.begun
+  begun_master w p k i None = refl
+  begun_master w p k i (Some m) = refl
+
+  begun_delivered : (w : World) (ok : Luck) (p k : ℕ) (i : Message) → (delivered w ok p k i).begun ≡ w.begun
+  begun_delivered w ok p k Setup = begun_master w p k Setup (w.masters k)
+  begun_delivered w ok p k (Request s b) = refl
+  begun_delivered w ok p k (Reply s b) = begun_master w p k (Reply s b) (w.masters k)
+  begun_delivered w ok p k (Holds s e b) = begun_master w p k (Holds s e b) (w.masters k)
+  begun_delivered w ok p k (Tells s e b) = begun_master w p k (Tells s e b) (w.masters k)
+  begun_delivered w ok p k Other_up = begun_master w p k Other_up (w.masters k)
+  begun_delivered w ok p k Other_down = refl
+
+  begun_delivers : (w : World) (ok : Luck) (o : Option Sent) → (delivers w ok o).begun ≡ w.begun
+  begun_delivers w ok None = refl
+  begun_delivers w ok (Some s) = begun_delivered w ok s.element s.controller s.message
+
+  begun_begin : (w : World) (k : ℕ) (ps : List ℕ) (changes : ℕ → ℕ) (o : Option Master) (b : Begun) → In b w.begun → In b (begin_at w k ps changes o).begun
+  begun_begin w k ps changes None b i = i
+  begun_begin w k ps changes (Some m) b i = inr i
+
+  begun_give_up : (w : World) (k : ℕ) (y : Txn) (o : Option Master) → (give_up_at w k y o).begun ≡ w.begun
+  begun_give_up w k y None = refl
+  begun_give_up w k y (Some m) = refl
+
+  begun_resend : (w : World) (k p : ℕ) (o : Option Master) → (resend_at w k p o).begun ≡ w.begun
+  begun_resend w k p None = refl
+  begun_resend w k p (Some m) = refl
+
+  begun_change : (w : World) (k p : ℕ) (o : Option Master) → (change_at w k p o).begun ≡ w.begun
+  begun_change w k p None = refl
+  begun_change w k p (Some m) = cond_all (λ (v : World). v.begun ≡ w.begun) (is_none (m.at p).waits) (speaks w k [] (sends_one k m p (Some Plain))) w (λ _. refl) (λ _. refl)
+
+  pub begun_on : (w : World) (s : Step) (b : Begun) → In b w.begun → In b (happens w s).begun
+  begun_on w (Open p k) b i = i
+  begun_on w (Murmur p ks) b i = i
+  begun_on w (Change k p) b i = subst (In b) (sym (begun_change w k p (w.masters k))) i
+  begun_on w (Deliver n ok) b i = subst (In b) (sym (begun_delivers w ok (slice_get w.sent n))) i
+  begun_on w (Start k r) b i = cond_all (λ (v : World). In b v.begun) (nat_lt k 256 && (is_none (w.masters k) && not (among r (w.used k)))) (starts w k r) w (λ _. i) (λ _. i)
+  begun_on w (Stop k) b i = i
+  begun_on w (Begin k ps changes) b i = begun_begin w k ps changes (w.masters k) b i
+  begun_on w (Give_up k y) b i = subst (In b) (sym (begun_give_up w k y (w.masters k))) i
+  begun_on w (Resend k p) b i = subst (In b) (sym (begun_resend w k p (w.masters k))) i
+
+  begun_run : (ss : List Step) (w : World) (b : Begun) → In b w.begun → In b (run ss w).begun
+  begun_run [] w b i = i
+  begun_run (s ∷ ss) w b i = begun_run ss (happens w s) b (begun_on w s b i)
+
+  pub run_tied : (ss : List Step) (w : World) (c : Core) → Named x parts (run ss w).begun → Tied x parts w c → Goes (run ss w)
+  run_tied [] w c n t = (c, t)
+  run_tied (s ∷ ss) w c n t =
+      let u = happens_tied w c s (λ b i e. n b (begun_run ss (happens w s) b i) e) t in
+      run_tied ss (happens w s) u.0 n u.1
+
+  -- the facts of a whole run
+
+  agreed : (d g : Decision) → (d ≡ Complete → g ≡ Abort → ⊥) → (g ≡ Complete → d ≡ Abort → ⊥) → d ≡ g
+  agreed Complete Complete f h = refl
+  agreed Complete Abort f h = absurd (f refl refl)
+  agreed Abort Complete f h = absurd (h refl refl)
+  agreed Abort Abort f h = refl
+
+  apart : (w : World) (c : Core) → Tied x parts w c → (p q : ℕ) (d g : Decision) → In (Settled_at p x d) w.facts → In (Settled_at q x g) w.facts → d ≡ Complete → g ≡ Abort → ⊥
+  apart w c t p q d g i n a b =
+      let r = t.reached in
+      agree x.epoch parts r.0 p q (ap (λ (v : Core). (v.at p).state) r.1 ∙ (t.marks p).settled d i ∙ ap done a) (ap (λ (v : Core). (v.at q).state) r.1 ∙ (t.marks q).settled g n ∙ ap done b)
+
+  pub agrees : (w : World) → Goes w → (p q : ℕ) (d g : Decision) → In (Settled_at p x d) w.facts → In (Settled_at q x g) w.facts → d ≡ g
+  agrees w u p q d g i n = agreed d g (apart w u.0 u.1 p q d g i n) (apart w u.0 u.1 q p g d n i)
+
+  good_at : (later before : List Fact) (f : Fact) → GoodFacts x parts (later ++ f ∷ before) → GoodFact x parts before f
+  good_at [] before f g = g.0
+  good_at (e ∷ later) before f g = good_at later before f g.1
+
+  pub settles_once : (w : World) → Goes w → (p : ℕ) (d g : Decision) (later before : List Fact) → w.facts ≡ later ++ Settled_at p x d ∷ before → In (Settled_at p x g) before → ⊥
+  settles_once w u p d g later before e = (good_at later before (Settled_at p x d) (subst (GoodFacts x parts) e u.1.good) refl).0 g
+
+  pub readies : (w : World) → Goes w → (p : ℕ) (later before : List Fact) → w.facts ≡ later ++ Settled_at p x Complete ∷ before → (ps : List ℕ) × In (Opened_at p x ps) before × ((q : ℕ) → among q ps ≡ true → In (Prepared_at q x) before)
+  readies w u p later before e = let v = (good_at later before (Settled_at p x Complete) (subst (GoodFacts x parts) e u.1.good) refl).1 refl in (parts, v.0, v.1)
+
+  opened_of : (fs : List Fact) (p : ℕ) (ps : List ℕ) → GoodFacts x parts fs → In (Opened_at p x ps) fs → ps ≡ parts
+  opened_of [] p ps g i = absurd i
+  opened_of (f ∷ fs) p ps g i = ⊎_elim (λ e. let h : GoodFact x parts fs (Opened_at p x ps) = subst (GoodFact x parts fs) (sym e) g.0 in h refl) (λ n. opened_of fs p ps g.1 n) i
+
+  pub opens_alike : (w : World) → Goes w → (p q : ℕ) (ps qs : List ℕ) → In (Opened_at p x ps) w.facts → In (Opened_at q x qs) w.facts → ps ≡ qs
+  opens_alike w u p q ps qs i n = opened_of w.facts p ps u.1.good i ∙ sym (opened_of w.facts q qs u.1.good n)
+
+  -- what a master counts as settled
+  pub settled_there : (w : World) → Goes w → (k : ℕ) (m : Master) (j : Job) (p : ℕ) → w.masters k ≡ Some m → In j m.jobs → j.txn ≡ x → j.settled p ≡ true → (d : Decision) × (j.decision ≡ Some d) × In (Settled_at p x d) w.facts
+  settled_there w u k m j p e i t s =
+      let f = master_is (past w u.0) k (w.masters k) m e (u.1.masters k) in
+      let v = (all_in (JobFine x parts (past w u.0) m.epoch) j m.jobs f.jobs.each i t).settled p s in
+      (v.0, v.1, (u.1.marks p).ended v.0 v.2)

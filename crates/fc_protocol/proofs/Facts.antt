@@ -1,0 +1,312 @@
+-- What holds in every world, for one transaction x with these participants.
+use Rattle.std.proofs.Common.{◌≡◌, ◌≢◌, ℕ, ◌+◌, ◌*◌, ◌<◌, ◌≤◌, Bool, true, false, cond, List, [], ◌∷◌, Option, Some, None, is_some, refl, sym, ap, ◌∙◌}
+use Rattle.fc_protocol.specs.Core.{State, Absent, Started, Prepared, Completed, Aborted, Decision, Complete, Abort, Note, Element, Core, among}
+use Rattle.fc_protocol.specs.Elements.{Txn, same, Entry, Stamp, Body, Claim, Sot, Mot, Eot, Trcomp, Abt, Ask, Ask_record, Plain, is_query, Message, Setup, Request, Reply, Holds, Tells, Other_up, Other_down, Sent, sent, state_of, El, Fact, Opened_at, Prepared_at, Settled_at, Claimed_at}
+use Rattle.fc_protocol.specs.Masters.{Answer, Job, Waiting, Peer, Master, find, count_of}
+use Rattle.fc_protocol.specs.World.{Begun, World}
+use Rattle.fc_protocol.proofs.Basics.{In, AllOf, all_on}
+use Rattle.fc_protocol.proofs.Moves.{Told, note, Reached, over}
+
+-- what has happened: the core, and of the world what only grows
+pub record Past : Type 0 where
+  pub core : Core
+  pub sent : List Sent
+  pub used : ℕ → List ℕ
+  pub begun : List Begun
+
+abbrev pub past : World → Core → Past
+past w c = record { core = c; sent = w.sent; used = w.used; begun = w.begun }
+
+-- e is the epoch of a life of k
+abbrev pub Lives : Past → ℕ → ℕ → Type 0
+Lives h k e = (r : ℕ) × In r (h.used k) × (e ≡ 256 * r + k) × (k < 256)
+
+abbrev pub is_live : State → Bool
+is_live Absent = true
+is_live Started = true
+is_live Prepared = true
+is_live Completed = false
+is_live Aborted = false
+
+abbrev pub Asked : Past → ℕ → ℕ → Stamp → Body → Type 0
+Asked h p k s b = In (sent p k (Request s b)) h.sent
+
+abbrev pub is_open : State → Bool
+is_open Absent = false
+is_open Started = true
+is_open Prepared = true
+is_open Completed = true
+is_open Aborted = false
+
+abbrev pub done : Decision → State
+done Complete = Completed
+done Abort = Aborted
+
+abbrev pub has : Txn → List Entry → Bool
+has x [] = false
+has x (n ∷ ns) = cond (same x n.txn) true (has x ns)
+
+-- two requests to one element with one correlator and of one kind are the same
+abbrev pub Unique : List Sent → Type 0
+Unique ss = (p j k : ℕ) (s : Stamp) (a b : Body) → In (sent p j (Request s a)) ss → In (sent p k (Request s b)) ss → is_query a ≡ is_query b → a ≡ b
+
+abbrev pub decision_of : Option Job → Option Decision
+decision_of None = None
+decision_of (Some j) = j.decision
+
+pub done_over : (d : Decision) → over (done d) ≡ true
+done_over Complete = refl
+done_over Abort = refl
+
+module _ (x : Txn) (parts : List ℕ) where
+  abbrev pub Born : Past → Type 0
+  Born h = (b : Begun) × In b h.begun × (b.txn ≡ x)
+
+  -- every transaction x that was begun has these participants
+  abbrev pub Named : List Begun → Type 0
+  Named bs = (b : Begun) → In b bs → b.txn ≡ x → b.parts ≡ parts
+
+  -- an entry of x at an element of this epoch
+  abbrev pub EntryFine : Past → ℕ → Entry → Type 0
+  EntryFine h e n = n.txn ≡ x → (is_live n.state ≡ true → n.parts ≡ parts) × (x.epoch ≤ e) × Born h
+
+  abbrev pub HeldFine : Past → ℕ → Entry → Type 0
+  HeldFine h e n = n.txn ≡ x → (n.parts ≡ parts) × (x.epoch ≤ e) × Born h
+
+  -- what a request of the life e to p shows
+  abbrev pub Means : Past → ℕ → ℕ → Body → Type 0
+  Means h e p (Claim w) = Unit {0}
+  Means h e p (Sot y ps) = y ≡ x → (e ≡ x.epoch) × (ps ≡ parts) × Born h
+  Means h e p (Mot y) = y ≡ x → e ≡ x.epoch
+  Means h e p (Eot y) = y ≡ x → e ≡ x.epoch
+  Means h e p (Trcomp y) = y ≡ x → (h.core.decided e ≡ Some Complete) × (among p parts ≡ true)
+  Means h e p (Abt y) = y ≡ x → (h.core.decided e ≡ Some Abort) × (among p parts ≡ true) × (x.epoch ≤ e) × Born h
+  Means h e p Ask = Unit {0}
+  Means h e p (Ask_record y) = y ≡ x → x.epoch < e
+  Means h e p Plain = Unit {0}
+
+  pub record RequestFine (h : Past) (k p : ℕ) (s : Stamp) (b : Body) : Type 0 where
+    pub life : Lives h k s.life
+    pub first : s.count ≡ 0 → b ≡ Claim s.life
+    pub means : Means h s.life p b
+
+  -- each response has its request
+  pub record ReplyFine (h : Past) (p : ℕ) (s : Stamp) (code : ℕ) : Type 0 where
+    pub body : Body
+    pub controller : ℕ
+    pub asked : Asked h p controller s body
+    pub kind : is_query body ≡ false
+    pub prepared : code ≡ 0 → body ≡ Eot x → Told h.core.notes (note s.life p Prepared)
+    pub completed : code ≡ 0 → body ≡ Trcomp x → (h.core.at p).state ≡ Completed
+    pub aborted : code ≡ 0 → body ≡ Abt x → (h.core.at p).state ≡ Aborted
+
+  pub record TellsFine (h : Past) (p : ℕ) (s : Stamp) (e : ℕ) (t : State) : Type 0 where
+    pub body : Body
+    pub controller : ℕ
+    pub asked : Asked h p controller s body
+    pub kind : is_query body ≡ true
+    pub told : body ≡ Ask_record x → Told h.core.notes (note e p t)
+    pub ended : body ≡ Ask_record x → over t ≡ true → (h.core.at p).state ≡ t
+
+  abbrev pub MessageFine : Past → ℕ → ℕ → Message → Type 0
+  MessageFine h p k Setup = Unit {0}
+  MessageFine h p k (Request s b) = RequestFine h k p s b
+  MessageFine h p k (Reply s code) = ReplyFine h p s code
+  MessageFine h p k (Holds s e ns) = AllOf (HeldFine h e) ns
+  MessageFine h p k (Tells s e t) = TellsFine h p s e t
+  MessageFine h p k Other_up = Unit {0}
+  MessageFine h p k Other_down = Unit {0}
+
+  abbrev pub SentFine : Past → Sent → Type 0
+  SentFine h s = MessageFine h s.element s.controller s.message
+
+  -- what is kept is no request: it stands whoever it goes to
+  abbrev pub KeptFine : Past → ℕ → Option Message → Type 0
+  KeptFine h p None = Unit {0}
+  KeptFine h p (Some Setup) = ⊥
+  KeptFine h p (Some (Request s b)) = ⊥
+  KeptFine h p (Some (Reply s code)) = ReplyFine h p s code
+  KeptFine h p (Some (Holds s e ns)) = ⊥
+  KeptFine h p (Some (Tells s e t)) = ⊥
+  KeptFine h p (Some Other_up) = ⊥
+  KeptFine h p (Some Other_down) = ⊥
+
+  -- at most one entry is of x
+  abbrev pub Single : List Entry → Type 0
+  Single [] = Unit {0}
+  Single (n ∷ ns) = (same x n.txn ≡ true → has x ns ≡ false) × Single ns
+
+  -- what an element has done stands in the facts
+  pub record Marks (fs : List Fact) (p : ℕ) (y : Element) : Type 0 where
+    pub opened : is_open y.state ≡ true → In (Opened_at p x parts) fs
+    pub prepared : y.prepared ≡ true → In (Prepared_at p x) fs
+    pub settled : (d : Decision) → In (Settled_at p x d) fs → y.state ≡ done d
+    pub ended : (d : Decision) → y.state ≡ done d → In (Settled_at p x d) fs
+
+  -- a fact after these
+  abbrev pub GoodFact : List Fact → Fact → Type 0
+  GoodFact fs (Opened_at p y ps) = y ≡ x → ps ≡ parts
+  GoodFact fs (Prepared_at p y) = Unit {0}
+  GoodFact fs (Settled_at p y d) = y ≡ x → ((g : Decision) → In (Settled_at p x g) fs → ⊥) × (d ≡ Complete → In (Opened_at p x parts) fs × ((q : ℕ) → among q parts ≡ true → In (Prepared_at q x) fs))
+  GoodFact fs (Claimed_at p e) = Unit {0}
+
+  abbrev pub GoodFacts : List Fact → Type 0
+  GoodFacts [] = Unit {0}
+  GoodFacts (f ∷ fs) = GoodFact fs f × GoodFacts fs
+
+  pub record ElFine (h : Past) (p : ℕ) (el : El) (y : Element) : Type 0 where
+    pub epoch : el.epoch ≡ y.epoch
+    pub state : state_of x el.records ≡ y.state
+    pub entries : AllOf (EntryFine h el.epoch) el.records
+    pub single : Single el.records
+    pub kept : KeptFine h p el.kept
+
+  pub record AnswerFine (h : Past) (e p : ℕ) (a : Answer) : Type 0 where
+    pub above : x.epoch < e → Told h.core.notes (note a.epoch p a.seen)
+    pub prepared : a.seen ≡ Prepared → Told h.core.notes (note a.epoch p a.seen)
+    pub own : x.epoch ≡ e → a.seen ≢ Completed
+    pub ended : x.epoch < e → over a.seen ≡ true → (h.core.at p).state ≡ a.seen
+
+  pub record OfX (h : Past) (e : ℕ) (j : Job) : Type 0 where
+    pub named : j.parts ≡ parts
+    pub born : Born h
+    pub low : x.epoch ≤ e
+    pub mine : j.mine ≡ true → e ≡ x.epoch
+    pub other : j.mine ≡ false → x.epoch < e
+    pub answers : (p : ℕ) (a : Answer) → j.answers p ≡ Some a → AnswerFine h e p a
+    pub settled : (p : ℕ) → j.settled p ≡ true → (d : Decision) × (j.decision ≡ Some d) × ((h.core.at p).state ≡ done d)
+
+  abbrev pub JobFine : Past → ℕ → Job → Type 0
+  JobFine h e j = j.txn ≡ x → OfX h e j
+
+  -- at most one job is of x
+  abbrev pub Once : List Job → Type 0
+  Once [] = Unit {0}
+  Once (j ∷ js) = (same x j.txn ≡ true → find x js ≡ None) × Once js
+
+  pub record JobsFine (h : Past) (e begun : ℕ) (js : List Job) : Type 0 where
+    pub decided : h.core.decided e ≡ decision_of (find x js)
+    pub each : AllOf (JobFine h e) js
+    pub once : Once js
+    pub numbers : e ≡ x.epoch → Born h → (x.number ≤ begun) × (is_some (find x js) ≡ true)
+
+  pub record PeerFine (h : Past) (k e p : ℕ) (y : Peer) : Type 0 where
+    pub waits : (o : Waiting) → y.waits ≡ Some o → (o.stamp.life ≡ e) × Asked h p k o.stamp o.body
+    pub counts : (j : ℕ) (s : Stamp) (b : Body) → Asked h p j s b → s.life ≡ e → s.count ≤ count_of b y
+
+  pub record MasterFine (h : Past) (k : ℕ) (m : Master) : Type 0 where
+    pub life : Lives h k m.epoch
+    pub jobs : JobsFine h m.epoch m.begun m.jobs
+    pub peers : (p : ℕ) → PeerFine h k m.epoch p (m.at p)
+
+  abbrev pub LifeFine : Past → ℕ → Option Master → Type 0
+  LifeFine h k None = Unit {0}
+  LifeFine h k (Some m) = MasterFine h k m
+
+  pub record Tied (w : World) (c : Core) : Type 0 where
+    pub reached : Reached x.epoch parts c
+    pub elements : (p : ℕ) → ElFine (past w c) p (w.at p) (c.at p)
+    pub masters : (k : ℕ) → LifeFine (past w c) k (w.masters k)
+    pub sent : (s : Sent) → In s w.sent → SentFine (past w c) s
+    pub unique : Unique w.sent
+    pub decided : (e : ℕ) (d : Decision) → c.decided e ≡ Some d → (k : ℕ) × Lives (past w c) k e
+    pub owner : Born (past w c) → (k : ℕ) × Lives (past w c) k x.epoch
+    pub marks : (p : ℕ) → Marks w.facts p (c.at p)
+    pub good : GoodFacts w.facts
+
+  -- Growth
+
+  pub record Later (h g : Past) : Type 0 where
+    pub decided : (e : ℕ) (d : Decision) → h.core.decided e ≡ Some d → g.core.decided e ≡ Some d
+    pub told : (n : Note) → Told h.core.notes n → Told g.core.notes n
+    pub final : (q : ℕ) (s : State) → over s ≡ true → (h.core.at q).state ≡ s → (g.core.at q).state ≡ s
+    pub sent : (s : Sent) → In s h.sent → In s g.sent
+    pub used : (k r : ℕ) → In r (h.used k) → In r (g.used k)
+    pub born : Born h → Born g
+
+  -- and nothing new of the life e
+  pub record Apart (e : ℕ) (h g : Past) : Type 0 where
+    pub decided : g.core.decided e ≡ h.core.decided e
+    pub asked : (p k : ℕ) (s : Stamp) (b : Body) → Asked g p k s b → s.life ≡ e → Asked h p k s b
+    pub born : e ≡ x.epoch → Born g → Born h
+
+  module _ (h g : Past) (l : Later h g) where
+    pub lives_on : (k e : ℕ) → Lives h k e → Lives g k e
+    lives_on k e t = (t.0, l.used k t.0 t.1, t.2, t.3)
+
+    pub means_on : (e p : ℕ) (b : Body) → Means h e p b → Means g e p b
+    means_on e p (Claim w) m = tt
+    means_on e p (Sot y ps) m = λ t. let n = m t in (n.0, n.1, l.born n.2)
+    means_on e p (Mot y) m = m
+    means_on e p (Eot y) m = m
+    means_on e p (Trcomp y) m = λ t. let n = m t in (l.decided e Complete n.0, n.1)
+    means_on e p (Abt y) m = λ t. let n = m t in (l.decided e Abort n.0, n.1, n.2, l.born n.3)
+    means_on e p Ask m = tt
+    means_on e p (Ask_record y) m = m
+    means_on e p Plain m = tt
+
+    pub reply_on : (p : ℕ) (s : Stamp) (code : ℕ) → ReplyFine h p s code → ReplyFine g p s code
+    reply_on p s code r = record { body = r.body; controller = r.controller; asked = l.sent _ r.asked; kind = r.kind; prepared = λ z e. l.told _ (r.prepared z e); completed = λ z e. l.final p Completed refl (r.completed z e); aborted = λ z e. l.final p Aborted refl (r.aborted z e) }
+
+    pub held_on : (e : ℕ) (n : Entry) → HeldFine h e n → HeldFine g e n
+    held_on e n f = λ t. let k = f t in (k.0, k.1, l.born k.2)
+
+    pub entry_on : (e : ℕ) (n : Entry) → EntryFine h e n → EntryFine g e n
+    entry_on e n f = λ t. let k = f t in (k.0, k.1, l.born k.2)
+
+    pub message_on : (p k : ℕ) (m : Message) → MessageFine h p k m → MessageFine g p k m
+    message_on p k Setup f = tt
+    message_on p k (Request s b) f = record { life = lives_on k s.life f.life; first = f.first; means = means_on s.life p b f.means }
+    message_on p k (Reply s code) f = reply_on p s code f
+    message_on p k (Holds s e ns) f = all_on (HeldFine h e) (HeldFine g e) ns (held_on e) f
+    message_on p k (Tells s e t) f = record { body = f.body; controller = f.controller; asked = l.sent _ f.asked; kind = f.kind; told = λ e. l.told _ (f.told e); ended = λ e i. l.final p t i (f.ended e i) }
+    message_on p k Other_up f = tt
+    message_on p k Other_down f = tt
+
+    pub kept_on : (p : ℕ) (m : Option Message) → KeptFine h p m → KeptFine g p m
+    kept_on p None f = tt
+    kept_on p (Some Setup) f = f
+    kept_on p (Some (Request s b)) f = f
+    kept_on p (Some (Reply s code)) f = reply_on p s code f
+    kept_on p (Some (Holds s e ns)) f = f
+    kept_on p (Some (Tells s e t)) f = f
+    kept_on p (Some Other_up) f = f
+    kept_on p (Some Other_down) f = f
+
+    pub el_on : (p : ℕ) (el : El) (y z : Element) → z ≡ y → ElFine h p el y → ElFine g p el z
+    el_on p el y z e f = record {
+      epoch = f.epoch ∙ ap (λ (v : Element). v.epoch) (sym e);
+      state = f.state ∙ ap (λ (v : Element). v.state) (sym e);
+      entries = all_on (EntryFine h el.epoch) (EntryFine g el.epoch) el.records (entry_on el.epoch) f.entries;
+      single = f.single;
+      kept = kept_on p el.kept f.kept;
+    }
+
+    pub job_on : (e : ℕ) (j : Job) → JobFine h e j → JobFine g e j
+    job_on e j f = λ t. let o = f t in
+        record {
+          named = o.named;
+          born = l.born o.born;
+          low = o.low;
+          mine = o.mine;
+          other = o.other;
+          answers = λ p a i. let b = o.answers p a i in record { above = λ u. l.told _ (b.above u); prepared = λ u. l.told _ (b.prepared u); own = b.own; ended = λ u v. l.final p a.seen v (b.ended u v) };
+          settled = λ p i. let b = o.settled p i in (b.0, b.1, l.final p (done b.0) (done_over b.0) b.2);
+        }
+
+    pub jobs_on : (e begun : ℕ) (js : List Job) → g.core.decided e ≡ h.core.decided e → (e ≡ x.epoch → Born g → Born h) → JobsFine h e begun js → JobsFine g e begun js
+    jobs_on e begun js d o f = record {
+      decided = d ∙ f.decided;
+      each = all_on (JobFine h e) (JobFine g e) js (job_on e) f.each;
+      once = f.once;
+      numbers = λ i b. f.numbers i (o i b);
+    }
+
+    pub peer_on : (k e p : ℕ) (y : Peer) → Apart e h g → PeerFine h k e p y → PeerFine g k e p y
+    peer_on k e p y a f = record {
+      waits = λ o i. let t = f.waits o i in (t.0, l.sent _ t.1);
+      counts = λ j s b i t. f.counts j s b (a.asked p j s b i t) t;
+    }
+
+    pub master_on : (k : ℕ) (m : Master) → Apart m.epoch h g → MasterFine h k m → MasterFine g k m
+    master_on k m a f = record { life = lives_on k m.epoch f.life; jobs = jobs_on m.epoch m.begun m.jobs a.decided a.born f.jobs; peers = λ p. peer_on k m.epoch p (m.at p) a (f.peers p) }

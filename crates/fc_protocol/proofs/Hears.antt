@@ -1,0 +1,149 @@
+-- A master hears a message: the core stays, and so do all facts about the master.
+use Rattle.std.proofs.Common.{◌≡◌, ℕ, ◌<◌, ◌≤◌, ◌==◌, ◌||◌, not, Bool, true, false, cond, nat_lt, List, Option, Some, None, refl, sym, ap, ◌∙◌, subst, arith, eqb-true}
+use Rattle.fc_protocol.specs.Core.{State, Prepared, put}
+use Rattle.fc_protocol.specs.Elements.{Txn, Entry, Stamp, same_stamp, Body, Claim, Sot, Mot, Eot, Trcomp, Abt, Ask, Ask_record, Plain, is_query, Message, Setup, Request, Reply, Holds, Tells, Other_up, Other_down, Sent, sent}
+use Rattle.fc_protocol.specs.Masters.{Waiting, Peer, Master, at_put, after_code, after_ask, unmatched, dropped, depose, matches, coded, is_lower, by_epoch, held_by, held_told, record_by, record_told, heard, seen}
+use Rattle.fc_protocol.proofs.Puts.{both_first, both_second, put_all}
+use Rattle.fc_protocol.proofs.Basics.{In, AllOf, stamp_true, none_some}
+use Rattle.fc_protocol.proofs.Moves.{Told, note, over}
+use Rattle.fc_protocol.proofs.Facts.{Past, Asked, Lives, Unique, HeldFine, Means, RequestFine, ReplyFine, TellsFine, SentFine, MessageFine, JobsFine, PeerFine, MasterFine}
+use Rattle.fc_protocol.proofs.Jobs.{by_code_fine, answer_fine, discover_fine}
+
+pub cond_all : {A : Type 0} (P : A → Type 0) (b : Bool) (v w : A) → (b ≡ true → P v) → (b ≡ false → P w) → P (cond b v w)
+cond_all P true v w f g = f refl
+cond_all P false v w f g = g refl
+
+not_above : (m n : ℕ) → nat_lt m n ≡ false → n ≤ m
+not_above m n h = grind arith
+
+or_first : (a b : Bool) → (a || b) ≡ false → a ≡ false
+or_first true b e = cc
+or_first false b e = refl
+
+is_not : (b : Bool) → not b ≡ true → b ≡ false
+is_not true e = cc
+is_not false e = refl
+
+is_zero : (n : ℕ) → (n == 0) ≡ true → n ≡ 0
+is_zero n e = eqb-true n 0 e
+
+module _ (x : Txn) (parts : List ℕ) (h : Past) (k : ℕ) where
+  -- a peer that waits for nothing, with the same counts
+  idle : (e p : ℕ) (y z : Peer) → z.waits ≡ None → z.last ≡ y.last → z.queries ≡ y.queries → PeerFine x parts h k e p y → PeerFine x parts h k e p z
+  idle e p y z n l q f = record {
+    waits = λ o i. none_some o (sym n ∙ i);
+    counts = λ j s b a i. subst (λ v. s.count ≤ cond (is_query b) v z.last) (sym q) (subst (λ v. s.count ≤ cond (is_query b) y.queries v) (sym l) (f.counts j s b a i));
+  }
+
+  -- a peer that waits as before
+  marked : (e p : ℕ) (y z : Peer) → z.waits ≡ y.waits → z.last ≡ y.last → z.queries ≡ y.queries → PeerFine x parts h k e p y → PeerFine x parts h k e p z
+  marked e p y z n l q f = record {
+    waits = λ o i. f.waits o (sym n ∙ i);
+    counts = λ j s b a i. subst (λ v. s.count ≤ cond (is_query b) v z.last) (sym q) (subst (λ v. s.count ≤ cond (is_query b) y.queries v) (sym l) (f.counts j s b a i));
+  }
+
+  -- one peer and the jobs change
+  with_peer : (m n : Master) (p : ℕ) (y : Peer) → n.epoch ≡ m.epoch → n.begun ≡ m.begun → ((q : ℕ) → n.at q ≡ put m.at p y q) → MasterFine x parts h k m → PeerFine x parts h k m.epoch p y → JobsFine x parts h m.epoch m.begun n.jobs → MasterFine x parts h k n
+  with_peer m n p y e b a f g i = record {
+    life = subst (Lives h k) (sym e) f.life;
+    jobs = subst (λ v. JobsFine x parts h v n.begun n.jobs) (sym e) (subst (λ v. JobsFine x parts h m.epoch v n.jobs) (sym b) i);
+    peers = λ q. subst (λ v. PeerFine x parts h k v q (n.at q)) (sym e) (subst (PeerFine x parts h k m.epoch q) (sym (a q)) (put_all (PeerFine x parts h k m.epoch) m.at p y g f.peers q));
+  }
+
+  unmatch : (m : Master) (p : ℕ) → MasterFine x parts h k m → MasterFine x parts h k (at_put m p (unmatched (m.at p)))
+  unmatch m p f = with_peer m (at_put m p (unmatched (m.at p))) p (unmatched (m.at p)) refl refl (λ _. refl) f (idle m.epoch p (m.at p) (unmatched (m.at p)) refl refl refl (f.peers p)) f.jobs
+
+  deposes : (m : Master) (e : ℕ) → MasterFine x parts h k m → MasterFine x parts h k (depose m e)
+  deposes m e f = record { life = f.life; jobs = f.jobs; peers = λ q. idle m.epoch q (m.at q) (dropped (m.at q)) refl refl refl (f.peers q) }
+
+  -- what the response is to, and what that means
+  record Matched (m : Master) (p : ℕ) (s : Stamp) (o : Waiting) : Type 0 where
+    life : s.life ≡ m.epoch
+    asked : Asked h p k s o.body
+    means : Means x parts h m.epoch p o.body
+
+  matched : (m : Master) (p : ℕ) (s : Stamp) (q : Bool) (o : Waiting) → MasterFine x parts h k m → ((t : Sent) → In t h.sent → SentFine x parts h t) → (m.at p).waits ≡ Some o → matches s q (Some o) ≡ true → Matched m p s o
+  matched m p s q o f all w e =
+      let i : s ≡ o.stamp = stamp_true s o.stamp (both_first (same_stamp s o.stamp) _ e) in
+      let t = (f.peers p).waits o w in
+      let r : RequestFine x parts h k p o.stamp o.body = all (sent p k (Request o.stamp o.body)) t.1 in
+      record {
+        life = ap (λ (v : Stamp). v.life) i ∙ t.0;
+        asked = subst (λ v. Asked h p k v o.body) (sym i) t.1;
+        means = subst (λ v. Means x parts h v p o.body) t.0 r.means;
+      }
+
+  query_kind : (q b : Bool) → cond q b (not b) ≡ true → b ≡ q
+  query_kind true b e = e
+  query_kind false b e = is_not b e
+
+  kind : (s : Stamp) (q : Bool) (o : Waiting) → matches s q (Some o) ≡ true → is_query o.body ≡ q
+  kind s q o e = query_kind q (is_query o.body) (both_second (same_stamp s o.stamp) _ e)
+
+  replied : (m : Master) (p : ℕ) (s : Stamp) (code : ℕ) (w : Option Waiting) → MasterFine x parts h k m → ((t : Sent) → In t h.sent → SentFine x parts h t) → Unique h.sent → ReplyFine x parts h p s code → (m.at p).waits ≡ w → matches s false w ≡ true → MasterFine x parts h k (coded m p code w)
+  replied m p s code None f all u r w e = f
+  replied m p s code (Some o) f all u r w e =
+      let t = matched m p s false o f all w e in
+      let body : r.body ≡ o.body = u p r.controller k s r.body o.body r.asked t.asked (r.kind ∙ sym (kind s false o e)) in
+      with_peer m (coded m p code (Some o)) p (after_code (m.at p) o.body code) refl refl (λ _. refl) f
+      (idle m.epoch p (m.at p) (after_code (m.at p) o.body code) refl refl refl (f.peers p))
+      (by_code_fine x parts h m.epoch m.begun p o.body (code == 0) m.jobs f.jobs t.means ((λ z v. subst (λ n. Told h.core.notes (note n p Prepared)) t.life (r.prepared (is_zero code z) (body ∙ v))), (λ z v. r.completed (is_zero code z) (body ∙ v)), (λ z v. r.aborted (is_zero code z) (body ∙ v))))
+
+  held_fine_by : (m : Master) (p : ℕ) (ns : List Entry) (b : Body) → MasterFine x parts h k m → AllOf (HeldFine x parts h m.epoch) ns → MasterFine x parts h k (held_by m p ns b)
+  held_fine_by m p ns Ask f a = with_peer m (held_by m p ns Ask) p (after_ask (m.at p)) refl refl (λ _. refl) f (idle m.epoch p (m.at p) (after_ask (m.at p)) refl refl refl (f.peers p)) (discover_fine x parts h m.epoch m.begun ns m.jobs a f.jobs)
+  held_fine_by m p ns (Ask_record y) f a = unmatch m p f
+  held_fine_by m p ns (Claim w) f a = f
+  held_fine_by m p ns (Sot y ps) f a = f
+  held_fine_by m p ns (Mot y) f a = f
+  held_fine_by m p ns (Eot y) f a = f
+  held_fine_by m p ns (Trcomp y) f a = f
+  held_fine_by m p ns (Abt y) f a = f
+  held_fine_by m p ns Plain f a = f
+
+  held_fine : (m : Master) (p : ℕ) (ns : List Entry) (w : Option Waiting) → MasterFine x parts h k m → AllOf (HeldFine x parts h m.epoch) ns → MasterFine x parts h k (held_told m p ns w)
+  held_fine m p ns None f a = f
+  held_fine m p ns (Some o) f a = held_fine_by m p ns o.body f a
+
+  record_fine_by : (m : Master) (p : ℕ) (t : State) (b : Body) → MasterFine x parts h k m → Means x parts h m.epoch p b → (b ≡ Ask_record x → Told h.core.notes (note m.epoch p t) × (over t ≡ true → (h.core.at p).state ≡ t)) → MasterFine x parts h k (record_by m p m.epoch t b)
+  record_fine_by m p t (Ask_record y) f n v =
+      with_peer m (record_by m p m.epoch t (Ask_record y)) p (dropped (m.at p)) refl refl (λ _. refl) f (idle m.epoch p (m.at p) (dropped (m.at p)) refl refl refl (f.peers p))
+      (answer_fine x parts h m.epoch m.begun m.jobs y p (seen m.epoch t) f.jobs (λ i.
+      let told = v (ap Ask_record i) in
+      let above : x.epoch < m.epoch = n i in
+      record { above = λ _. told.0; prepared = λ _. told.0; own = λ j. absurd (omega arith); ended = λ _ o. told.1 o }))
+  record_fine_by m p t Ask f n v = unmatch m p f
+  record_fine_by m p t (Claim w) f n v = f
+  record_fine_by m p t (Sot y ps) f n v = f
+  record_fine_by m p t (Mot y) f n v = f
+  record_fine_by m p t (Eot y) f n v = f
+  record_fine_by m p t (Trcomp y) f n v = f
+  record_fine_by m p t (Abt y) f n v = f
+  record_fine_by m p t Plain f n v = f
+
+  record_fine : (m : Master) (p : ℕ) (s : Stamp) (t : State) (w : Option Waiting) → MasterFine x parts h k m → ((t : Sent) → In t h.sent → SentFine x parts h t) → Unique h.sent → TellsFine x parts h p s m.epoch t → (m.at p).waits ≡ w → matches s true w ≡ true
+      → MasterFine x parts h k (record_told m p m.epoch t w)
+  record_fine m p s t None f all u r w e = f
+  record_fine m p s t (Some o) f all u r w e =
+      let v = matched m p s true o f all w e in
+      let body : r.body ≡ o.body = u p r.controller k s r.body o.body r.asked v.asked (r.kind ∙ sym (kind s true o e)) in
+      record_fine_by m p t o.body f v.means (λ i. (r.told (body ∙ i), r.ended (body ∙ i)))
+
+  -- an answer of the epoch e counts only where e is the master's
+  epoch_fine : (m n : Master) (p e : ℕ) → MasterFine x parts h k m → (e ≡ m.epoch → MasterFine x parts h k n) → MasterFine x parts h k (by_epoch m p e n)
+  epoch_fine m n p e f g =
+      cond_all (MasterFine x parts h k) (nat_lt m.epoch e) (depose m e) _ (λ _. deposes m e f)
+      (λ a. cond_all (MasterFine x parts h k) (is_lower m p e) (at_put m p (unmatched (m.at p))) n (λ _. unmatch m p f)
+      (λ b. let low : e ≤ m.epoch = not_above _ _ a in let high : m.epoch ≤ e = not_above _ _ (or_first (nat_lt e m.epoch) _ b) in g (omega arith)))
+
+  pub hears_fine : (m : Master) (p : ℕ) (t : Message) → MasterFine x parts h k m → ((t : Sent) → In t h.sent → SentFine x parts h t) → Unique h.sent → MessageFine x parts h p k t → MasterFine x parts h k (heard m p t)
+  hears_fine m p Setup f all u g = with_peer m (heard m p Setup) p (record (m.at p) { met = true }) refl refl (λ _. refl) f (marked m.epoch p (m.at p) (record (m.at p) { met = true }) refl refl refl (f.peers p)) f.jobs
+  hears_fine m p (Request s b) f all u g = f
+  hears_fine m p (Reply s code) f all u g = cond_all (MasterFine x parts h k) (matches s false (m.at p).waits) _ m (λ e. replied m p s code (m.at p).waits f all u g refl e) (λ _. f)
+  hears_fine m p (Holds s e ns) f all u g =
+      cond_all (MasterFine x parts h k) (matches s true (m.at p).waits) _ m
+      (λ _. epoch_fine m (held_told m p ns (m.at p).waits) p e f (λ i. held_fine m p ns (m.at p).waits f (subst (λ v. AllOf (HeldFine x parts h v) ns) i g))) (λ _. f)
+  hears_fine m p (Tells s e t) f all u g =
+      cond_all (MasterFine x parts h k) (matches s true (m.at p).waits) _ m
+      (λ a. epoch_fine m (record_told m p e t (m.at p).waits) p e f (λ i. subst (λ v. MasterFine x parts h k (record_told m p v t (m.at p).waits)) (sym i) (record_fine m p s t (m.at p).waits f all u (subst (λ v. TellsFine x parts h p s v t) i g) refl a))) (λ _. f)
+  hears_fine m p Other_up f all u g = f
+  hears_fine m p Other_down f all u g = f

@@ -1,0 +1,121 @@
+-- The moves of the core, by what they need, and chains of moves at one element.
+use Rattle.std.proofs.Common.{◌≡◌, ℕ, zero, suc, ◌<◌, ◌==◌, Bool, true, false, List, [], ◌∷◌, ◌++◌, slice_get, Some, nat_lt, refl, sym, ap, ◌∙◌, subst, arith, eq-eqb}
+use Rattle.fc_protocol.specs.Core.{State, Absent, Started, Prepared, Completed, Aborted, Decision, Complete, Abort, Note, Element, Core, Move, Raise, Open, Fail, Prepare, Tell, Settle, start, happens, run, settles_by, among, put, changed, to, raised, settled, is_absent, is_started}
+use Rattle.fc_protocol.proofs.Puts.{put_keep, put_here}
+use Rattle.fc_protocol.proofs.Basics.{cond_true, and_true, put_over, put_rest}
+
+abbrev pub Told : List Note → Note → Type 0
+Told notes n = (w : ℕ) × (slice_get notes w ≡ Some n)
+
+abbrev pub note : ℕ → ℕ → State → Note
+note e p s = record { life = e; element = p; state = s }
+
+abbrev pub over : State → Bool
+over Absent = false
+over Started = false
+over Prepared = false
+over Completed = true
+over Aborted = true
+
+absurd_over : {P : Type 0} (s t : State) → over s ≡ true → t ≡ s → over t ≡ false → P
+absurd_over s t o e f = let u : true ≡ false = sym o ∙ ap over (sym e) ∙ f in cc
+
+pub raised_over : (s : State) → over s ≡ true → raised s ≡ s
+raised_over Absent e = cc
+raised_over Started e = cc
+raised_over Prepared e = cc
+raised_over Completed e = refl
+raised_over Aborted e = refl
+
+settled_over : (d : Decision) (s : State) → over s ≡ true → settled d s ≡ s
+settled_over d Absent e = cc
+settled_over d Started e = cc
+settled_over d Prepared e = cc
+settled_over Complete Completed e = refl
+settled_over Abort Completed e = refl
+settled_over Complete Aborted e = refl
+settled_over Abort Aborted e = refl
+
+module _ (own : ℕ) (parts : List ℕ) where
+  abbrev pub Reached : Core → Type 0
+  Reached c = (ms : List Move) × (run own parts ms start ≡ c)
+
+  run_snoc : (ms : List Move) (m : Move) (c : Core) → run own parts (ms ++ m ∷ []) c ≡ happens own parts (run own parts ms c) m
+  run_snoc [] m c = refl
+  run_snoc (n ∷ ms) m c = run_snoc ms m (happens own parts c n)
+
+  pub reach_more : (c : Core) (m : Move) → Reached c → Reached (happens own parts c m)
+  reach_more c m r = (r.0 ++ m ∷ [], run_snoc r.0 m start ∙ ap (λ d. happens own parts d m) r.1)
+
+  -- from c to d only element p has changed, by moves
+  pub record Turned (c d : Core) (p : ℕ) : Type 0 where
+    pub at : (q : ℕ) → d.at q ≡ put c.at p (d.at p) q
+    pub decided : (e : ℕ) → d.decided e ≡ c.decided e
+    pub told : (n : Note) → Told c.notes n → Told d.notes n
+    pub final : (q : ℕ) (s : State) → over s ≡ true → (c.at q).state ≡ s → (d.at q).state ≡ s
+    pub reached : Reached c → Reached d
+
+  abbrev pub Turns : Core → ℕ → Element → Type 0
+  Turns c p y = (d : Core) × Turned c d p × (d.at p ≡ y)
+
+  pub turned_none : (c : Core) (p : ℕ) → Turned c c p
+  turned_none c p = record { at = λ q. sym (put_keep c.at p (c.at p) q (c.at q) refl (λ e. ap c.at (sym e))); decided = λ _. refl; told = λ _ t. t; final = λ q s o e. e; reached = λ r. r }
+
+  pub turned_then : (c d f : Core) (p : ℕ) → Turned c d p → Turned d f p → Turned c f p
+  turned_then c d f p t u = record {
+    at = λ q. u.at q ∙ put_over c.at d.at p (d.at p) (f.at p) q (t.at q);
+    decided = λ e. u.decided e ∙ t.decided e;
+    told = λ n h. u.told n (t.told n h);
+    final = λ q s o e. u.final q s o (t.final q s o e);
+    reached = λ r. u.reached (t.reached r);
+  }
+
+  by_changed : (c d : Core) (p : ℕ) (y : Element) → ((s : State) → over s ≡ true → (c.at p).state ≡ s → y.state ≡ s) → (Reached c → Reached d) → d ≡ changed c p y → Turns c p y
+  by_changed c d p y k r e =
+      let here : d.at p ≡ y = ap (λ (f : Core). f.at p) e ∙ put_here c.at p y in (
+        d,
+        record {
+          at = λ q. ap (λ (f : Core). f.at q) e ∙ ap (λ v. put c.at p v q) (sym here);
+          decided = λ f. ap (λ (g : Core). g.decided f) e;
+          told = λ n h. subst (λ (g : Core). Told g.notes n) (sym e) h;
+          final = λ q s o h. ap (λ (f : Core). (f.at q).state) e ∙ put_rest (λ i v. (c.at i).state ≡ s → v.state ≡ s) c.at p y (k s o) (λ i _ u. u) q h;
+          reached = r;
+        },
+        here,
+      )
+
+  by_move : (c : Core) (m : Move) (p : ℕ) (y : Element) → ((s : State) → over s ≡ true → (c.at p).state ≡ s → y.state ≡ s) → happens own parts c m ≡ changed c p y → Turns c p y
+  by_move c m p y k e = by_changed c (happens own parts c m) p y k (reach_more c m) e
+
+  pub opens : (c : Core) (p : ℕ) → among p parts ≡ true → (c.at p).epoch ≡ own → (c.at p).state ≡ Absent → Turns c p (to (c.at p) Started)
+  opens c p m e s = by_move c (Open p) p _ (λ t o h. absurd_over t (c.at p).state o h (ap over s)) (cond_true _ _ c (and_true (among p parts) _ m (and_true ((c.at p).epoch == own) _ (eq-eqb _ _ e) (ap is_absent s))))
+
+  pub fails : (c : Core) (p : ℕ) → (c.at p).state ≡ Started → Turns c p (to (c.at p) Aborted)
+  fails c p s = by_move c (Fail p) p _ (λ t o h. absurd_over t (c.at p).state o h (ap over s)) (cond_true _ _ c (ap is_started s))
+
+  pub prepares : (c : Core) (p : ℕ) → (c.at p).epoch ≡ own → (c.at p).state ≡ Started → Turns c p (record { epoch = (c.at p).epoch; state = Prepared; prepared = true })
+  prepares c p e s = by_move c (Prepare p) p _ (λ t o h. absurd_over t (c.at p).state o h (ap over s)) (cond_true _ _ c (and_true ((c.at p).epoch == own) _ (eq-eqb _ _ e) (ap is_started s)))
+
+  lt_test : (m n : ℕ) → m < n → nat_lt m n ≡ true
+  lt_test m n h = grind arith
+
+  pub raises : (c : Core) (p e : ℕ) → (c.at p).epoch < e → Turns c p (record { epoch = e; state = raised (c.at p).state; prepared = (c.at p).prepared })
+  raises c p e h = by_move c (Raise p e) p _ (λ t o u. ap raised u ∙ raised_over t o) (cond_true _ _ c (lt_test _ _ h))
+
+  pub settles : (c : Core) (p : ℕ) (d : Decision) → among p parts ≡ true → c.decided (c.at p).epoch ≡ Some d → Turns c p (to (c.at p) (settled d (c.at p).state))
+  settles c p d m e = by_move c (Settle p) p _ (λ t o u. ap (settled d) u ∙ settled_over d t o) (cond_true _ _ c m ∙ ap (settles_by c p) e)
+
+  -- the element tells its state
+  pub tells : (c : Core) (p : ℕ) → (d : Core) × Turned c d p × (d.at p ≡ c.at p) × Told d.notes (note (c.at p).epoch p (c.at p).state)
+  tells c p = (
+    happens own parts c (Tell p),
+    record {
+      at = λ q. sym (put_keep c.at p (c.at p) q (c.at q) refl (λ e. ap c.at (sym e)));
+      decided = λ _. refl;
+      told = λ n h. (suc h.0, h.1);
+      final = λ q s o h. h;
+      reached = reach_more c (Tell p);
+    },
+    refl,
+    (zero, refl),
+  )
