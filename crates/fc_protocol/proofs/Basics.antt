@@ -1,8 +1,9 @@
 -- Lists, tests and changed functions.
 use Rattle.std.proofs.Common.{◌≡◌, ℕ, zero, suc, ◌==◌, Bool, true, false, cond, ◌&&◌, List, [], ◌∷◌, ◌++◌, slice_get, Some, None, ◌⊎◌, inl, inr, ⊎_elim, refl, sym, ap, ◌∙◌, subst, eqb-true, eq-eqb}
-use Rattle.fc_protocol.specs.Core.{put}
-pub use Rattle.fc_protocol.specs.Lists.{In}
-use Rattle.fc_protocol.specs.Elements.{Txn, same, Stamp, same_stamp}
+use Rattle.fc_protocol.specs.Collections.{put}
+use Rattle.fc_protocol.specs.Messages.{same, Stamp, same_stamp}
+use Rattle.fc_protocol.specs.declared.ids.TxnId.{TxnId}
+pub use Rattle.fc_protocol.specs.Collections.{In}
 use Rattle.fc_protocol.proofs.Puts.{both_first, both_second}
 
 abbrev pub AllOf : {A : Type 0} → (A → Type 0) → List A → Type 0
@@ -54,16 +55,16 @@ pub both : (b : Bool) → (b ≡ true) ⊎ (b ≡ false)
 both true = inl refl
 both false = inr refl
 
-pub same_true : (x y : Txn) → same x y ≡ true → x ≡ y
+pub same_true : (x y : TxnId) → same x y ≡ true → x ≡ y
 same_true x y e =
     let a : x.epoch ≡ y.epoch = eqb-true _ _ (both_first (x.epoch == y.epoch) _ e) in
     let b : x.number ≡ y.number = eqb-true _ _ (both_second (x.epoch == y.epoch) _ e) in
     ap (λ (n : ℕ). record { epoch = n; number = x.number }) a ∙ ap (λ (n : ℕ). record { epoch = y.epoch; number = n }) b
 
-pub same_self : (x : Txn) → same x x ≡ true
+pub same_self : (x : TxnId) → same x x ≡ true
 same_self x = and_true (x.epoch == x.epoch) (x.number == x.number) (eq-eqb _ _ refl) (eq-eqb _ _ refl)
 
-pub same_of : (x y : Txn) → x ≡ y → same x y ≡ true
+pub same_of : (x y : TxnId) → x ≡ y → same x y ≡ true
 same_of x y e = subst (λ z. same x z ≡ true) e (same_self x)
 
 pub stamp_true : (x y : Stamp) → same_stamp x y ≡ true → x ≡ y

@@ -1,13 +1,23 @@
 -- Each step of the world is moves of the core.
-use Rattle.std.proofs.Common.{◌≡◌, ℕ, ◌+◌, ◌*◌, ◌<◌, ◌≤◌, ◌==◌, ◌&&◌, ◌||◌, not, Bool, true, false, cond, nat_lt, List, [], ◌∷◌, ◌++◌, append_assoc, slice_get, map, Option, Some, None, is_none, is_some, ◌⊎◌, inl, inr, ⊎_elim, refl, sym, ap, ◌∙◌, subst, arith, eqb-true, eq-eqb}
-use Rattle.fc_protocol.specs.Core.{Absent, Decision, Complete, Abort, Core, start, among, put}
-use Rattle.fc_protocol.specs.Elements.{Txn, same, Stamp, Body, Fact, Opened_at, Prepared_at, Settled_at, Message, Setup, Request, Reply, Holds, Tells, Other_up, Other_down, Plain, Luck, only_says, Sent, sent, hears}
-use Rattle.fc_protocol.specs.Masters.{Job, Waiting, Peer, Master, new_master, find, or_next, decide_all, decided_job, due, sends_one, sends_all, heard, again, at_once, finish, new_job, begins, given_up, gives_up}
-use Rattle.fc_protocol.specs.World.{World, Begun, Step, Open, Deliver, Start, Stop, Begin, Give_up, Resend, Murmur, Change, murmurs, change_at, first_world, says, with_master, with_begun, speaks, to_master, to_element, delivered, delivers, starts, begin_at, give_up_at, resend_at, happens, run}
+use Rattle.std.proofs.Common.{◌≡◌, ℕ, ◌+◌, ◌*◌, ◌%◌, zero, suc, ◌<◌, ◌≤◌, ◌==◌, ◌&&◌, ◌||◌, not, Bool, true, false, cond, nat_lt, List, [], ◌∷◌, ◌++◌, append_assoc, slice_get, map, Option, Some, None, is_none, is_some, ◌⊎◌, inl, inr, ⊎_elim, refl, sym, ap, ◌∙◌, subst, arith, eqb-true, eq-eqb}
+use Rattle.fc_protocol.specs.Agreement.{decision_of}
+use Rattle.fc_protocol.specs.Collections.{among, put, or_next}
+use Rattle.fc_protocol.specs.Core.{Core, Move, moves, start}
+use Rattle.fc_protocol.specs.ElementMachine.{Circumstance, only_says, hears}
+use Rattle.fc_protocol.specs.Jobs.{Job, find, decided_job, new_job, given_up}
+use Rattle.fc_protocol.specs.MasterMachine.{Refusal, begin_refusal, plain_refusal, give_up_refusal, Waiting, Peer, Master, new_master, decide_all, due, sends_one, sends_all, heard, again, at_once, finish, begins, gives_up}
+use Rattle.fc_protocol.specs.Messages.{Trcomp, Abt, Malformed, Beat, Unread, same, Stamp, Body, Message, Setup, Request, Reply, Holds, Tells, Other_up, Other_down, Plain, Sent, sent}
+use Rattle.fc_protocol.specs.Records.{seen, state_of}
+use Rattle.fc_protocol.specs.Trace.{Fact, Opened_at, Prepared_at, Settled_at}
+use Rattle.fc_protocol.specs.WorldSteps.{Open, Give_up, Network, controller_of, World, Begun, Step, Deliver, Moment, Start, Stop, Begin, Change, Resend, murmurs, sender, numbered, is_round, may_start, begin_by, give_up_by, change_by, change_at, first_world, says, with_master, with_begun, speaks, to_master, to_element, delivered, delivers, starts, begin_at, give_up_at, resend_at, happens, run}
+use Rattle.fc_protocol.specs.declared.ids.TxnId.{TxnId}
+use Rattle.fc_protocol.specs.declared.states.Decision.{Decision}
+use Rattle.fc_protocol.specs.declared.states.Decision.TheVariants.{Complete, Abort}
+use Rattle.fc_protocol.specs.declared.states.Seen.TheVariants.{Absent}
 use Rattle.fc_protocol.proofs.Puts.{put_here, both_first, both_second}
-use Rattle.fc_protocol.proofs.Basics.{In, in_left, in_either, in_get, all_in, all_on, both, same_true, same_of, put_other, put_rest, none_some, some_same}
+use Rattle.fc_protocol.proofs.Basics.{In, in_left, in_either, in_get, cond_false, all_in, all_on, both, same_true, same_of, put_other, put_rest, none_some, some_same}
 use Rattle.fc_protocol.proofs.Facts.{Past, past, Lives, Unique, Born, Named, SentFine, RequestFine, MessageFine, JobFine, PeerFine, MasterFine, LifeFine, Tied, Later, el_on, job_on, lives_on, Marks, GoodFact, GoodFacts, done}
-use Rattle.fc_protocol.proofs.Hearing.{went_if}
+use Rattle.fc_protocol.proofs.Hearing.{went}
 use Rattle.fc_protocol.proofs.Telling.{life_on, sent_on, later_more, element_tied}
 use Rattle.fc_protocol.proofs.Keeps.{agree}
 use Rattle.fc_protocol.proofs.Jobs.{found_in, jobs_add}
@@ -56,7 +66,22 @@ fresh_life w c k r j small new v =
     let no : true ≡ false = sym (in_among r (w.used k) here) ∙ new in
     cc
 
-module _ (x : Txn) (parts : List ℕ) where
+-- a controller that has a name has a number below 256
+named_low : (ks : List ℕ) (c : ℕ) → is_some (controller_of ks c) ≡ true → c < 256
+named_low [] c e = cc
+named_low (k ∷ ks) c e = ⊎_elim (λ u. let v : k % 256 ≡ c = eqb-true (k % 256) c u in omega arith) (λ u. named_low ks c (sym (ap is_some (cond_false (k % 256 == c) (Some k) (controller_of ks c) u)) ∙ e)) (both (k % 256 == c))
+
+pub may_start_is : (w : World) (k r : ℕ) → may_start w k r ≡ true → (k < 256) × (among r (w.used k) ≡ false)
+may_start_is w k r e =
+    let named = both_first (is_some (controller_of w.network.controllers k) && is_round r) _ e in
+    let free = both_second (is_some (controller_of w.network.controllers k) && is_round r) _ e in
+    (named_low w.network.controllers k (both_first (is_some (controller_of w.network.controllers k)) _ named), not_false _ (both_second (is_none (w.masters k)) _ free))
+
+in_numbered : (s : Sent) (ss : List Sent) (i : ℕ) → numbered ss i ≡ Some s → In s ss
+in_numbered s ss zero e = cc
+in_numbered s ss (suc i) e = in_get s ss i e
+
+module _ (x : TxnId) (parts : List ℕ) where
   master_is : (h : Past) (k : ℕ) (o : Option Master) (m : Master) → o ≡ Some m → LifeFine x parts h k o → MasterFine x parts h k m
   master_is h k o m e f = subst (LifeFine x parts h k) e f
 
@@ -168,11 +193,11 @@ module _ (x : Txn) (parts : List ℕ) where
   abbrev pub Goes : World → Type 0
   Goes w = (c : Core) × Tied x parts w c
 
-  finish_tied : (w : World) (c : Core) (k : ℕ) (es : List ℕ) (m : Master) (ss : List Sent) → Tied x parts (with_master w k m ss) c → Goes (with_master w k (finish k es m).master (ss ++ (finish k es m).says))
-  finish_tied w c k es m ss t =
+  finish_tied : (w : World) (c : Core) (k : ℕ) (m : Master) (ss : List Sent) → Tied x parts (with_master w k m ss) c → Goes (with_master w k (finish k m).master (ss ++ (finish k m).says))
+  finish_tied w c k m ss t =
       let f = master_of w c k m ss t in
       let d = decide_fine x parts (past (with_master w k m ss) c) m.epoch m.begun m.jobs f.jobs in
-      (d.core, send_all_tied w d.core k es (decide_all m) ss (decided_tied w c k m ss (map (λ j. decided_job m.epoch j.decision j) m.jobs) t d))
+      (d.core, send_all_tied w d.core k m.elements (decide_all m) ss (decided_tied w c k m ss (map (λ j. decided_job m.epoch j.decision j) m.jobs) t d))
 
   -- messages that are no new requests
   says_tied : (w : World) (c : Core) (xs : List Sent) → Tied x parts w c → ((s : Sent) → In s xs → SentFine x parts (past (says w xs) c) s) → Unique (w.sent ++ xs) → ((p k : ℕ) (s : Stamp) (b : Body) → In (sent p k (Request s b)) xs → In (sent p k (Request s b)) w.sent) → Tied x parts (says w xs) c
@@ -214,12 +239,16 @@ module _ (x : Txn) (parts : List ℕ) where
   again_old h k p e y (Some o) i f s n = ⊎_elim (λ u. subst (λ v. In v h.sent) (sym u) (f.waits o i).1) (λ u. absurd u) n
 
   at_once_old : (h : Past) (k p : ℕ) (m : Master) (t : Message) → MasterFine x parts h k m → (s : Sent) → In s (at_once k m p t) → In s h.sent ⊎ Noise s
-  at_once_old h k p m Setup f s n = ⊎_elim (λ e. inr (inr (inr (ap (λ (v : Sent). v.message) e)))) (λ i. inl (again_old h k p m.epoch (m.at p) (m.at p).waits refl (f.peers p) s i)) n
+  at_once_old h k p m Setup f s n =
+      ⊎_elim (λ e. inr (inr (inr (ap (λ (v : Sent). v.message) e))))
+      (λ i. inl (cond_all (λ ss. In s ss → In s h.sent) (among p m.elements) (again k p (m.at p).waits) [] (λ _. again_old h k p m.epoch (m.at p) (m.at p).waits refl (f.peers p) s) (λ _ v. absurd v) i)) n
+  at_once_old h k p m Beat f s n = ⊎_elim (λ e. inr (inr (inr (ap (λ (v : Sent). v.message) e)))) (λ i. absurd i) n
+  at_once_old h k p m (Unread r e) f s n = absurd n
   at_once_old h k p m (Request r b) f s n = absurd n
   at_once_old h k p m (Reply r b) f s n = absurd n
   at_once_old h k p m (Holds r e b) f s n = absurd n
   at_once_old h k p m (Tells r e b) f s n = absurd n
-  at_once_old h k p m Other_up f s n = ⊎_elim (λ e. inr (inr (inr (ap (λ (v : Sent). v.message) e)))) (λ i. absurd i) n
+  at_once_old h k p m Other_up f s n = absurd n
   at_once_old h k p m Other_down f s n = absurd n
 
   murmurs_noise : (p : ℕ) (ks : List ℕ) (s : Sent) → In s (murmurs p ks) → Noise s
@@ -229,8 +258,8 @@ module _ (x : Txn) (parts : List ℕ) where
   murmurs_tied : (w : World) (c : Core) (p : ℕ) (ks : List ℕ) → Tied x parts w c → Tied x parts (says w (murmurs p ks)) c
   murmurs_tied w c p ks t = repeat_tied w c (murmurs p ks) t (λ s i. inr (murmurs_noise p ks s i))
 
-  speak_tied : (w : World) (c : Core) (k : ℕ) (es : List ℕ) (m : Master) (first : List Sent) → Tied x parts (with_master w k m (w.sent ++ first)) c → Goes (speaks w k first (finish k es m))
-  speak_tied w c k es m first t = finish_tied w c k es m (w.sent ++ first) t
+  speak_tied : (w : World) (c : Core) (k : ℕ) (m : Master) (first : List Sent) → Tied x parts (with_master w k m (w.sent ++ first)) c → Goes (speaks w k first (finish k m))
+  speak_tied w c k m first t = finish_tied w c k m (w.sent ++ first) t
 
   to_master_tied : (w : World) (c : Core) (p k : ℕ) (i : Message) (o : Option Master) → Tied x parts w c → w.masters k ≡ o → In (sent p k i) w.sent → Goes (to_master w p k i o)
   to_master_tied w c p k i None t e n = (c, t)
@@ -240,24 +269,26 @@ module _ (x : Txn) (parts : List ℕ) where
       let b = repeat_tied (with_master w k m w.sent) c first a (at_once_old (past w c) k p m i (master_of w c k m w.sent a)) in
       let h = past (with_master w k m (w.sent ++ first)) c in
       let f = hears_fine x parts h k m p i (master_of w c k m (w.sent ++ first) b) b.sent b.unique (b.sent (sent p k i) (in_left _ w.sent first n)) in
-      speak_tied w c k w.elements (heard m p i) first (swap w c k m (heard m p i) (w.sent ++ first) b f)
+      speak_tied w c k (heard m p i) first (swap w c k m (heard m p i) (w.sent ++ first) b f)
 
-  delivered_tied : (w : World) (c : Core) (ok : Luck) (p k : ℕ) (i : Message) → Tied x parts w c → In (sent p k i) w.sent → Goes (delivered w ok p k i)
+  delivered_tied : (w : World) (c : Core) (ok : Circumstance) (p k : ℕ) (i : Message) → Tied x parts w c → In (sent p k i) w.sent → Goes (delivered w ok p k i)
   delivered_tied w c ok p k Setup t n = to_master_tied w c p k Setup (w.masters k) t refl n
   delivered_tied w c ok p k (Request s b) t n =
       let r : RequestFine x parts (past w c) k p s b = t.sent (sent p k (Request s b)) n in
-      let u = went_if x parts (past w c) w.facts p k (w.at p) ok s b ok.deaf (record { reached = t.reached; marks = t.marks; good = t.good }) (t.elements p) n r.means in
-      let heard = cond ok.deaf (only_says (w.at p) None) (hears p (w.at p) k ok s b) in
+      let u = went x parts (past w c) w.facts p k (sender w k) (w.at p) ok s b (record { reached = t.reached; marks = t.marks; good = t.good }) (t.elements p) n r.means in
+      let heard = hears p (w.at p) (sender w k) ok s b in
       (u.core, murmurs_tied (to_element w p k heard) u.core p ok.others (element_tied x parts w c p k heard t u))
   delivered_tied w c ok p k (Reply s b) t n = to_master_tied w c p k (Reply s b) (w.masters k) t refl n
   delivered_tied w c ok p k (Holds s e b) t n = to_master_tied w c p k (Holds s e b) (w.masters k) t refl n
   delivered_tied w c ok p k (Tells s e b) t n = to_master_tied w c p k (Tells s e b) (w.masters k) t refl n
+  delivered_tied w c ok p k Beat t n = to_master_tied w c p k Beat (w.masters k) t refl n
+  delivered_tied w c ok p k (Unread s e) t n = to_master_tied w c p k (Unread s e) (w.masters k) t refl n
   delivered_tied w c ok p k Other_up t n = to_master_tied w c p k Other_up (w.masters k) t refl n
   delivered_tied w c ok p k Other_down t n = (c, murmurs_tied w c p ok.others t)
 
-  delivers_tied : (w : World) (c : Core) (ok : Luck) (i : ℕ) (o : Option Sent) → Tied x parts w c → slice_get w.sent i ≡ o → Goes (delivers w ok o)
+  delivers_tied : (w : World) (c : Core) (ok : Circumstance) (i : ℕ) (o : Option Sent) → Tied x parts w c → numbered w.sent i ≡ o → Goes (delivers w ok o)
   delivers_tied w c ok i None t e = (c, t)
-  delivers_tied w c ok i (Some s) t e = delivered_tied w c ok s.element s.controller s.message t (in_get s w.sent i e)
+  delivers_tied w c ok i (Some s) t e = delivered_tied w c ok s.element s.controller s.message t (in_numbered s w.sent i e)
 
   -- a life begins
   start_tied : (w : World) (c : Core) (k r : ℕ) → Tied x parts w c → k < 256 → among r (w.used k) ≡ false → Tied x parts (starts w k r) c
@@ -278,7 +309,7 @@ module _ (x : Txn) (parts : List ℕ) where
       record {
         reached = t.reached;
         elements = λ q. el_on x parts h g l q (w.at q) (c.at q) (c.at q) refl (t.elements q);
-        masters = put_rest (LifeFine x parts g) w.masters k (Some (new_master e))
+        masters = put_rest (LifeFine x parts g) w.masters k (Some (new_master e w.network.elements))
             (record {
               life = life;
               jobs = record {
@@ -324,7 +355,7 @@ module _ (x : Txn) (parts : List ℕ) where
   or_some (Some j) t e = refl
 
   -- a transaction is begun
-  begin_tied : (w : World) (c : Core) (k : ℕ) (m : Master) (ps : List ℕ) (changes : ℕ → ℕ) (y : Txn) → y ≡ record { epoch = m.epoch; number = m.begun + 1 } → Tied x parts (with_master w k m w.sent) c → Named x parts (record { txn = y; parts = ps } ∷ w.begun)
+  begin_tied : (w : World) (c : Core) (k : ℕ) (m : Master) (ps : List ℕ) (changes : ℕ → ℕ) (y : TxnId) → y ≡ record { epoch = m.epoch; number = m.begun + 1 } → Tied x parts (with_master w k m w.sent) c → Named x parts (record { txn = y; parts = ps } ∷ w.begun)
       → Tied x parts (with_master (with_begun w (record { txn = y; parts = ps })) k (record m { begun = m.begun + 1; jobs = m.jobs ++ new_job y ps changes ∷ [] }) w.sent) c
   begin_tied w c k m ps changes y made t named =
       let b : Begun = record { txn = y; parts = ps } in
@@ -333,8 +364,8 @@ module _ (x : Txn) (parts : List ℕ) where
       let g = past (with_master (with_begun w b) k n w.sent) c in
       let l : Later x parts h g = record { decided = λ _ _ i. i; told = λ _ i. i; final = λ q s o i. i; sent = λ _ i. i; used = λ _ _ i. i; born = λ o. (o.0, inr o.1, o.2) } in
       let f = master_of w c k m w.sent t in
-      let at_own = λ (i : y ≡ x). ap (λ (v : Txn). v.epoch) (sym made) ∙ ap (λ (v : Txn). v.epoch) i in
-      let number = λ (i : y ≡ x). ap (λ (v : Txn). v.number) (sym made) ∙ ap (λ (v : Txn). v.number) i in
+      let at_own = λ (i : y ≡ x). ap (λ (v : TxnId). v.epoch) (sym made) ∙ ap (λ (v : TxnId). v.epoch) i in
+      let number = λ (i : y ≡ x). ap (λ (v : TxnId). v.number) (sym made) ∙ ap (λ (v : TxnId). v.number) i in
       let born_or : Born x parts g → (y ≡ x) ⊎ Born x parts h = λ o. ⊎_elim (λ i. inl (ap (λ (v : Begun). v.txn) (sym i) ∙ o.2)) (λ i. inr (o.0, i, o.2)) o.1 in
       record {
         reached = t.reached;
@@ -379,20 +410,28 @@ module _ (x : Txn) (parts : List ℕ) where
   silent : (w : World) (c : Core) (k : ℕ) (m : Master) → Tied x parts (with_master w k m w.sent) c → Tied x parts (with_master w k m (w.sent ++ [])) c
   silent w c k m t = subst (λ v. Tied x parts (with_master w k m v) c) (sym (append_none w.sent)) t
 
-  begin_at_tied : (w : World) (c : Core) (k : ℕ) (ps : List ℕ) (changes : ℕ → ℕ) (o : Option Master) → Tied x parts w c → w.masters k ≡ o → Named x parts (begin_at w k ps changes o).begun → Goes (begin_at w k ps changes o)
-  begin_at_tied w c k ps changes None t e n = (c, t)
-  begin_at_tied w c k ps changes (Some m) t e n =
+  begin_by_tied : (w : World) (c : Core) (k : ℕ) (ps : List ℕ) (changes : ℕ → ℕ) (m : Master) (r : Option Refusal) → Tied x parts w c → w.masters k ≡ Some m → Named x parts (begin_by w k ps changes m r).begun → Goes (begin_by w k ps changes m r)
+  begin_by_tied w c k ps changes m (Some r) t e n = (c, t)
+  begin_by_tied w c k ps changes m None t e n =
       let b : Begun = record { txn = record { epoch = m.epoch; number = m.begun + 1 }; parts = ps } in
       let u = begin_tied w c k m ps changes b.txn refl (enter w c k m t e) n in
-      speak_tied (with_begun w b) c k w.elements (begins m ps changes) [] (silent (with_begun w b) c k (begins m ps changes) u)
+      speak_tied (with_begun w b) c k (begins m ps changes) [] (silent (with_begun w b) c k (begins m ps changes) u)
 
-  give_up_at_tied : (w : World) (c : Core) (k : ℕ) (y : Txn) (o : Option Master) → Tied x parts w c → w.masters k ≡ o → Goes (give_up_at w k y o)
-  give_up_at_tied w c k y None t e = (c, t)
-  give_up_at_tied w c k y (Some m) t e =
+  begin_at_tied : (w : World) (c : Core) (k : ℕ) (ps : List ℕ) (changes : ℕ → ℕ) (o : Option Master) → Tied x parts w c → w.masters k ≡ o → Named x parts (begin_at w k ps changes o).begun → Goes (begin_at w k ps changes o)
+  begin_at_tied w c k ps changes None t e n = (c, t)
+  begin_at_tied w c k ps changes (Some m) t e n = begin_by_tied w c k ps changes m (begin_refusal m ps changes) t e n
+
+  give_up_by_tied : (w : World) (c : Core) (k : ℕ) (y : TxnId) (m : Master) (r : Option Refusal) → Tied x parts w c → w.masters k ≡ Some m → Goes (give_up_by w k y m r)
+  give_up_by_tied w c k y m (Some r) t e = (c, t)
+  give_up_by_tied w c k y m None t e =
       let a = enter w c k m t e in
       let f = master_of w c k m w.sent a in
       let d = give_up_fine x parts (past w c) m.epoch m.begun m.jobs y f.jobs in
-      speak_tied w d.core k w.elements (gives_up m y) [] (silent w d.core k (gives_up m y) (decided_tied w c k m w.sent (map (given_up y) m.jobs) a d))
+      speak_tied w d.core k (gives_up m y) [] (silent w d.core k (gives_up m y) (decided_tied w c k m w.sent (map (given_up y) m.jobs) a d))
+
+  give_up_at_tied : (w : World) (c : Core) (k : ℕ) (y : TxnId) (o : Option Master) → Tied x parts w c → w.masters k ≡ o → Goes (give_up_at w k y o)
+  give_up_at_tied w c k y None t e = (c, t)
+  give_up_at_tied w c k y (Some m) t e = give_up_by_tied w c k y m (give_up_refusal m y) t e
 
   resend_at_tied : (w : World) (c : Core) (k p : ℕ) (o : Option Master) → Tied x parts w c → w.masters k ≡ o → Tied x parts (resend_at w k p o) c
   resend_at_tied w c k p None t e = t
@@ -404,27 +443,29 @@ module _ (x : Txn) (parts : List ℕ) where
   open_tied w c p k t = repeat_tied w c (sent p k Setup ∷ []) t (λ s i. ⊎_elim (λ e. inr (inl (ap (λ (v : Sent). v.message) e))) (λ n. absurd n) i)
 
   -- a plain change is sent at once
+  change_by_tied : (w : World) (c : Core) (k p : ℕ) (m : Master) (r : Option Refusal) → Tied x parts w c → w.masters k ≡ Some m → Tied x parts (change_by w k p m r) c
+  change_by_tied w c k p m (Some r) t e = t
+  change_by_tied w c k p m None t e =
+      send_tied w c k m (w.sent ++ []) p (Some Plain) (silent w c k m (enter w c k m t e)) (λ b i. subst (Due x parts (past (with_master w k m (w.sent ++ [])) c) m.epoch p) (some_same _ _ i) (tt, (λ u. cc)))
+
   change_at_tied : (w : World) (c : Core) (k p : ℕ) (o : Option Master) → Tied x parts w c → w.masters k ≡ o → Tied x parts (change_at w k p o) c
   change_at_tied w c k p None t e = t
-  change_at_tied w c k p (Some m) t e =
-      cond_all (λ v. Tied x parts v c) (is_none (m.at p).waits) (speaks w k [] (sends_one k m p (Some Plain))) w
-      (λ _. send_tied w c k m (w.sent ++ []) p (Some Plain) (silent w c k m (enter w c k m t e)) (λ b i. subst (Due x parts (past (with_master w k m (w.sent ++ [])) c) m.epoch p) (some_same _ _ i) (tt, (λ u. cc)))) (λ _. t)
+  change_at_tied w c k p (Some m) t e = change_by_tied w c k p m (plain_refusal m p) t e
 
   pub happens_tied : (w : World) (c : Core) (s : Step) → Named x parts (happens w s).begun → Tied x parts w c → Goes (happens w s)
-  happens_tied w c (Open p k) n t = (c, open_tied w c p k t)
-  happens_tied w c (Murmur p ks) n t = (c, murmurs_tied w c p ks t)
+  happens_tied w c (Open p k) n t =
+      cond_all Goes (among p w.network.elements && is_some (controller_of w.network.controllers k)) (says w (sent p k Setup ∷ [])) w (λ _. (c, open_tied w c p k t)) (λ _. (c, t))
+  happens_tied w c (Moment p ks) n t = cond_all Goes (among p w.network.elements) (says w (murmurs p ks)) w (λ _. (c, murmurs_tied w c p ks t)) (λ _. (c, t))
   happens_tied w c (Change k p) n t = (c, change_at_tied w c k p (w.masters k) t refl)
-  happens_tied w c (Deliver i ok) n t = delivers_tied w c ok i (slice_get w.sent i) t refl
-  happens_tied w c (Start k r) n t =
-      cond_all Goes (nat_lt k 256 && (is_none (w.masters k) && not (among r (w.used k)))) (starts w k r) w
-      (λ e. (c, start_tied w c k r t (below _ _ (both_first (nat_lt k 256) _ e)) (not_false _ (both_second (is_none (w.masters k)) _ (both_second (nat_lt k 256) _ e))))) (λ _. (c, t))
+  happens_tied w c (Deliver i ok) n t = delivers_tied w c ok i (numbered w.sent i) t refl
+  happens_tied w c (Start k r) n t = cond_all Goes (may_start w k r) (starts w k r) w (λ e. let v = may_start_is w k r e in (c, start_tied w c k r t v.0 v.1)) (λ _. (c, t))
   happens_tied w c (Stop k) n t = (c, stop_tied w c k t)
   happens_tied w c (Begin k ps changes) n t = begin_at_tied w c k ps changes (w.masters k) t refl n
   happens_tied w c (Give_up k y) n t = give_up_at_tied w c k y (w.masters k) t refl
   happens_tied w c (Resend k p) n t = (c, resend_at_tied w c k p (w.masters k) t refl)
 
-  pub first_tied : (es : List ℕ) → Tied x parts (first_world es) start
-  first_tied es = record {
+  pub first_tied : (net : Network) → Tied x parts (first_world net) start
+  first_tied net = record {
     reached = ([], refl);
     elements = λ p. record { epoch = refl; state = refl; entries = tt; single = tt; kept = tt };
     masters = λ _. tt;
@@ -444,41 +485,55 @@ module _ (x : Txn) (parts : List ℕ) where
   begun_master w p k i None = refl
   begun_master w p k i (Some m) = refl
 
-  begun_delivered : (w : World) (ok : Luck) (p k : ℕ) (i : Message) → (delivered w ok p k i).begun ≡ w.begun
+  begun_delivered : (w : World) (ok : Circumstance) (p k : ℕ) (i : Message) → (delivered w ok p k i).begun ≡ w.begun
   begun_delivered w ok p k Setup = begun_master w p k Setup (w.masters k)
   begun_delivered w ok p k (Request s b) = refl
   begun_delivered w ok p k (Reply s b) = begun_master w p k (Reply s b) (w.masters k)
   begun_delivered w ok p k (Holds s e b) = begun_master w p k (Holds s e b) (w.masters k)
   begun_delivered w ok p k (Tells s e b) = begun_master w p k (Tells s e b) (w.masters k)
+  begun_delivered w ok p k Beat = begun_master w p k Beat (w.masters k)
+  begun_delivered w ok p k (Unread s e) = begun_master w p k (Unread s e) (w.masters k)
   begun_delivered w ok p k Other_up = begun_master w p k Other_up (w.masters k)
   begun_delivered w ok p k Other_down = refl
 
-  begun_delivers : (w : World) (ok : Luck) (o : Option Sent) → (delivers w ok o).begun ≡ w.begun
+  begun_delivers : (w : World) (ok : Circumstance) (o : Option Sent) → (delivers w ok o).begun ≡ w.begun
   begun_delivers w ok None = refl
   begun_delivers w ok (Some s) = begun_delivered w ok s.element s.controller s.message
 
+  begun_begin_by : (w : World) (k : ℕ) (ps : List ℕ) (changes : ℕ → ℕ) (m : Master) (r : Option Refusal) (b : Begun) → In b w.begun → In b (begin_by w k ps changes m r).begun
+  begun_begin_by w k ps changes m (Some r) b i = i
+  begun_begin_by w k ps changes m None b i = inr i
+
   begun_begin : (w : World) (k : ℕ) (ps : List ℕ) (changes : ℕ → ℕ) (o : Option Master) (b : Begun) → In b w.begun → In b (begin_at w k ps changes o).begun
   begun_begin w k ps changes None b i = i
-  begun_begin w k ps changes (Some m) b i = inr i
+  begun_begin w k ps changes (Some m) b i = begun_begin_by w k ps changes m (begin_refusal m ps changes) b i
 
-  begun_give_up : (w : World) (k : ℕ) (y : Txn) (o : Option Master) → (give_up_at w k y o).begun ≡ w.begun
+  begun_give_up_by : (w : World) (k : ℕ) (y : TxnId) (m : Master) (r : Option Refusal) → (give_up_by w k y m r).begun ≡ w.begun
+  begun_give_up_by w k y m (Some r) = refl
+  begun_give_up_by w k y m None = refl
+
+  begun_give_up : (w : World) (k : ℕ) (y : TxnId) (o : Option Master) → (give_up_at w k y o).begun ≡ w.begun
   begun_give_up w k y None = refl
-  begun_give_up w k y (Some m) = refl
+  begun_give_up w k y (Some m) = begun_give_up_by w k y m (give_up_refusal m y)
 
   begun_resend : (w : World) (k p : ℕ) (o : Option Master) → (resend_at w k p o).begun ≡ w.begun
   begun_resend w k p None = refl
   begun_resend w k p (Some m) = refl
 
+  begun_change_by : (w : World) (k p : ℕ) (m : Master) (r : Option Refusal) → (change_by w k p m r).begun ≡ w.begun
+  begun_change_by w k p m (Some r) = refl
+  begun_change_by w k p m None = refl
+
   begun_change : (w : World) (k p : ℕ) (o : Option Master) → (change_at w k p o).begun ≡ w.begun
   begun_change w k p None = refl
-  begun_change w k p (Some m) = cond_all (λ (v : World). v.begun ≡ w.begun) (is_none (m.at p).waits) (speaks w k [] (sends_one k m p (Some Plain))) w (λ _. refl) (λ _. refl)
+  begun_change w k p (Some m) = begun_change_by w k p m (plain_refusal m p)
 
   pub begun_on : (w : World) (s : Step) (b : Begun) → In b w.begun → In b (happens w s).begun
-  begun_on w (Open p k) b i = i
-  begun_on w (Murmur p ks) b i = i
+  begun_on w (Open p k) b i = cond_all (λ (v : World). In b v.begun) (among p w.network.elements && is_some (controller_of w.network.controllers k)) (says w (sent p k Setup ∷ [])) w (λ _. i) (λ _. i)
+  begun_on w (Moment p ks) b i = cond_all (λ (v : World). In b v.begun) (among p w.network.elements) (says w (murmurs p ks)) w (λ _. i) (λ _. i)
   begun_on w (Change k p) b i = subst (In b) (sym (begun_change w k p (w.masters k))) i
-  begun_on w (Deliver n ok) b i = subst (In b) (sym (begun_delivers w ok (slice_get w.sent n))) i
-  begun_on w (Start k r) b i = cond_all (λ (v : World). In b v.begun) (nat_lt k 256 && (is_none (w.masters k) && not (among r (w.used k)))) (starts w k r) w (λ _. i) (λ _. i)
+  begun_on w (Deliver n ok) b i = subst (In b) (sym (begun_delivers w ok (numbered w.sent n))) i
+  begun_on w (Start k r) b i = cond_all (λ (v : World). In b v.begun) (may_start w k r) (starts w k r) w (λ _. i) (λ _. i)
   begun_on w (Stop k) b i = i
   begun_on w (Begin k ps changes) b i = begun_begin w k ps changes (w.masters k) b i
   begun_on w (Give_up k y) b i = subst (In b) (sym (begun_give_up w k y (w.masters k))) i
@@ -533,3 +588,25 @@ module _ (x : Txn) (parts : List ℕ) where
       let f = master_is (past w u.0) k (w.masters k) m e (u.1.masters k) in
       let v = (all_in (JobFine x parts (past w u.0) m.epoch) j m.jobs f.jobs.each i t).settled p s in
       (v.0, v.1, (u.1.marks p).ended v.0 v.2)
+
+  -- no life says both ends
+  pub says_apart : (w : World) → Goes w → (p q j k : ℕ) (m n : Stamp) → In (sent p j (Request m (Trcomp x))) w.sent → In (sent q k (Request n (Abt x))) w.sent → m.life ≡ n.life → ⊥
+  says_apart w u p q j k m n a b e =
+      let f : RequestFine x parts (past w u.0) j p m (Trcomp x) = u.1.sent (sent p j (Request m (Trcomp x))) a in
+      let g : RequestFine x parts (past w u.0) k q n (Abt x) = u.1.sent (sent q k (Request n (Abt x))) b in
+      let clash : Some Complete ≡ Some Abort = sym (f.means refl).0 ∙ ap u.0.decided e ∙ (g.means refl).0 in
+      cc
+
+  abbrev Follows : World → Core → Type 0
+  Follows w c = ((p : ℕ) → ((c.at p).epoch ≡ (w.at p).epoch) × ((c.at p).state ≡ seen (state_of x (w.at p).records))) × ((k : ℕ) (m : Master) → w.masters k ≡ Some m → c.decided m.epoch ≡ decision_of (find x m.jobs))
+
+  -- the world is what the moves of the core have made
+  pub follows : (w : World) → Goes w → (qs : List ℕ) × (ms : List Move)
+      × ((p : ℕ) → (((moves x.epoch qs ms start).at p).epoch ≡ (w.at p).epoch) × (((moves x.epoch qs ms start).at p).state ≡ seen (state_of x (w.at p).records)))
+      × ((k : ℕ) (m : Master) → w.masters k ≡ Some m → (moves x.epoch qs ms start).decided m.epoch ≡ decision_of (find x m.jobs))
+  follows w u =
+      let c = u.0 in
+      let t = u.1 in
+      let here : Follows w c = ((λ p. (sym (t.elements p).epoch, sym (t.elements p).state)), (λ k m e. (master_is (past w c) k (w.masters k) m e (t.masters k)).jobs.decided)) in
+      let there : Follows w (moves x.epoch parts t.reached.0 start) = subst (Follows w) (sym t.reached.1) here in
+      (parts, t.reached.0, there.0, there.1)

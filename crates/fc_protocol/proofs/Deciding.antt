@@ -1,41 +1,49 @@
 -- A life decides.
 use Rattle.std.proofs.Common.{◌≡◌, ◌≢◌, ℕ, ◌<◌, ◌==◌, ◌&&◌, ◌||◌, not, Bool, true, false, cond, nat_lt, List, [], ◌∷◌, map, Option, Some, None, is_none, option_map, ◌⊎◌, inl, inr, ⊎_elim, refl, sym, ap, ◌∙◌, subst, arith, eqb-true, eq-eqb}
-use Rattle.fc_protocol.specs.Core.{State, Absent, Started, Prepared, Completed, Aborted, Decision, Complete, Abort, Note, Element, Core, Decide, Give_up, Commit, happens, decides, decides_by, commits_by, decide, any, every, is_completed, is_aborted, is_prepared, answers, picked, with_first}
-use Rattle.fc_protocol.specs.Elements.{Txn, same}
-use Rattle.fc_protocol.specs.Masters.{Answer, Job, find, with_answer, seen_all, decides_job, with_decision, decided_job, given_up, is_for, answer_is}
+use Rattle.fc_protocol.specs.Agreement.{decision_of}
+use Rattle.fc_protocol.specs.Core.{Note, Element, Core, Decide, Give_up, Commit, moved, decides, decides_by, commits_by, answers, picked}
+use Rattle.fc_protocol.specs.Decide.{states_under, decision_by, any, every, is_completed, is_aborted, is_prepared, with_first, with_answer}
+use Rattle.fc_protocol.specs.Jobs.{Job, find, decides_job, with_decision, decided_job, given_up, is_for, answer_is}
+use Rattle.fc_protocol.specs.Messages.{same}
+use Rattle.fc_protocol.specs.declared.ids.Answer.{Answer}
+use Rattle.fc_protocol.specs.declared.ids.TxnId.{TxnId}
+use Rattle.fc_protocol.specs.declared.states.Decision.{Decision}
+use Rattle.fc_protocol.specs.declared.states.Decision.TheVariants.{Complete, Abort}
+use Rattle.fc_protocol.specs.declared.states.Seen.{Seen}
+use Rattle.fc_protocol.specs.declared.states.Seen.TheVariants.{Absent, Started, Prepared, Completed, Aborted}
 use Rattle.fc_protocol.proofs.Puts.{both_first, both_second, put_keep, put_here, was_none}
 use Rattle.fc_protocol.proofs.Basics.{all_in, cond_true, and_true, both, put_other, none_some}
 use Rattle.fc_protocol.proofs.Moves.{over, Told, note, Reached, reach_more}
-use Rattle.fc_protocol.proofs.Facts.{Past, OfX, JobFine, JobsFine, decision_of, Later, job_on, done, done_over}
+use Rattle.fc_protocol.proofs.Facts.{Past, OfX, JobFine, JobsFine, Later, job_on, done, done_over}
 use Rattle.fc_protocol.proofs.Hearing.{on}
 use Rattle.fc_protocol.proofs.Jobs.{found_in, jobs_mapped}
 
 -- the answers that the states were taken from
-abbrev Taken : ℕ → (ℕ → Option Answer) → List ℕ → List State → Type 0
+abbrev Taken : ℕ → (ℕ → Option Answer) → List ℕ → List Seen → Type 0
 Taken e f [] [] = Unit {0}
 Taken e f [] (s ∷ ss) = ⊥
 Taken e f (p ∷ ps) [] = ⊥
 Taken e f (p ∷ ps) (s ∷ ss) = ((a : Answer) × (f p ≡ Some a) × (a.epoch ≡ e) × (a.seen ≡ s)) × Taken e f ps ss
 
-taken_first : (e p : ℕ) (f : ℕ → Option Answer) (ps : List ℕ) (a : Answer) (r : Option (List State)) (ss : List State) → f p ≡ Some a → a.epoch ≡ e → ((ts : List State) → r ≡ Some ts → Taken e f ps ts) → with_first a.seen r ≡ Some ss → Taken e f (p ∷ ps) ss
+taken_first : (e p : ℕ) (f : ℕ → Option Answer) (ps : List ℕ) (a : Answer) (r : Option (List Seen)) (ss : List Seen) → f p ≡ Some a → a.epoch ≡ e → ((ts : List Seen) → r ≡ Some ts → Taken e f ps ts) → with_first a.seen r ≡ Some ss → Taken e f (p ∷ ps) ss
 taken_first e p f ps a None ss i j g k = cc
 taken_first e p f ps a (Some ts) ss i j g k = let s : a.seen ∷ ts ≡ ss = cc in subst (Taken e f (p ∷ ps)) s ((a, i, j, refl), g ts refl)
 
-taken_if : (e p : ℕ) (f : ℕ → Option Answer) (ps : List ℕ) (a : Answer) (r : Option (List State)) (ss : List State) (b : Bool) → (a.epoch == e) ≡ b → f p ≡ Some a → ((ts : List State) → r ≡ Some ts → Taken e f ps ts) → cond b (with_first a.seen r) None ≡ Some ss → Taken e f (p ∷ ps) ss
+taken_if : (e p : ℕ) (f : ℕ → Option Answer) (ps : List ℕ) (a : Answer) (r : Option (List Seen)) (ss : List Seen) (b : Bool) → (a.epoch == e) ≡ b → f p ≡ Some a → ((ts : List Seen) → r ≡ Some ts → Taken e f ps ts) → cond b (with_first a.seen r) None ≡ Some ss → Taken e f (p ∷ ps) ss
 taken_if e p f ps a r ss true j i g k = taken_first e p f ps a r ss i (eqb-true _ _ j) g k
 taken_if e p f ps a r ss false j i g k = cc
 
-taken_by : (e p : ℕ) (f : ℕ → Option Answer) (ps : List ℕ) (o : Option Answer) (r : Option (List State)) (ss : List State) → f p ≡ o → ((ts : List State) → r ≡ Some ts → Taken e f ps ts) → with_answer e o r ≡ Some ss → Taken e f (p ∷ ps) ss
+taken_by : (e p : ℕ) (f : ℕ → Option Answer) (ps : List ℕ) (o : Option Answer) (r : Option (List Seen)) (ss : List Seen) → f p ≡ o → ((ts : List Seen) → r ≡ Some ts → Taken e f ps ts) → with_answer e o r ≡ Some ss → Taken e f (p ∷ ps) ss
 taken_by e p f ps None r ss i g k = cc
 taken_by e p f ps (Some a) r ss i g k = taken_if e p f ps a r ss (a.epoch == e) refl i g k
 
-taken : (e : ℕ) (f : ℕ → Option Answer) (ps : List ℕ) (ss : List State) → seen_all e f ps ≡ Some ss → Taken e f ps ss
+taken : (e : ℕ) (f : ℕ → Option Answer) (ps : List ℕ) (ss : List Seen) → states_under e (map f ps) ≡ Some ss → Taken e f ps ss
 taken e f [] [] k = tt
 taken e f [] (s ∷ ss) k = cc
-taken e f (p ∷ ps) ss k = taken_by e p f ps (f p) (seen_all e f ps) ss refl (taken e f ps) k
+taken e f (p ∷ ps) ss k = taken_by e p f ps (f p) (states_under e (map f ps)) ss refl (taken e f ps) k
 
 -- the moves that pick a note for each of them
-picks : (e : ℕ) (f : ℕ → Option Answer) (ns : List Note) (ps : List ℕ) (ss : List State) (t : State → Bool) → Taken e f ps ss → every t ss ≡ true → ((p : ℕ) (a : Answer) → f p ≡ Some a → t a.seen ≡ true → Told ns (note a.epoch p a.seen)) → (ws : List ℕ) × (answers e ns ps ws ≡ Some ss)
+picks : (e : ℕ) (f : ℕ → Option Answer) (ns : List Note) (ps : List ℕ) (ss : List Seen) (t : Seen → Bool) → Taken e f ps ss → every t ss ≡ true → ((p : ℕ) (a : Answer) → f p ≡ Some a → t a.seen ≡ true → Told ns (note a.epoch p a.seen)) → (ws : List ℕ) × (answers e ns ps ws ≡ Some ss)
 picks e f ns [] [] t k v g = ([], refl)
 picks e f ns [] (s ∷ ss) t k v g = absurd k
 picks e f ns (p ∷ ps) [] t k v g = absurd k
@@ -48,18 +56,18 @@ picks e f ns (p ∷ ps) (s ∷ ss) t k v g =
           ∙ cond_true _ (with_first a.seen (Some ss)) None (and_true (a.epoch == e) (p == p) (eq-eqb _ _ k.0.2) (eq-eqb _ _ refl)) ∙ ap (λ v. Some (v ∷ ss)) k.0.3,
     )
 
-every_state : (ss : List State) → every (λ _. true) ss ≡ true
+every_state : (ss : List Seen) → every (λ _. true) ss ≡ true
 every_state [] = refl
 every_state (s ∷ ss) = every_state ss
 
-not_completed : (s : State) → s ≢ Completed → is_completed s ≡ false
+not_completed : (s : Seen) → s ≢ Completed → is_completed s ≡ false
 not_completed Absent n = refl
 not_completed Started n = refl
 not_completed Prepared n = refl
 not_completed Completed n = absurd (n refl)
 not_completed Aborted n = refl
 
-none_completed : (e : ℕ) (f : ℕ → Option Answer) (ps : List ℕ) (ss : List State) → Taken e f ps ss → ((p : ℕ) (a : Answer) → f p ≡ Some a → a.seen ≢ Completed) → any is_completed ss ≡ false
+none_completed : (e : ℕ) (f : ℕ → Option Answer) (ps : List ℕ) (ss : List Seen) → Taken e f ps ss → ((p : ℕ) (a : Answer) → f p ≡ Some a → a.seen ≢ Completed) → any is_completed ss ≡ false
 none_completed e f [] [] k g = refl
 none_completed e f [] (s ∷ ss) k g = absurd k
 none_completed e f (p ∷ ps) [] k g = absurd k
@@ -73,7 +81,7 @@ own_choice false true e d h f = inl (sym h)
 own_choice false false true d h f = inr (sym h, refl)
 own_choice false false false d h f = inl (sym h)
 
-was_prepared : (s : State) → is_prepared s ≡ true → s ≡ Prepared
+was_prepared : (s : Seen) → is_prepared s ≡ true → s ≡ Prepared
 was_prepared Absent e = cc
 was_prepared Started e = cc
 was_prepared Prepared e = refl
@@ -87,7 +95,7 @@ is_not : (b : Bool) → not b ≡ true → b ≡ false
 is_not true e = cc
 is_not false e = refl
 
-for_done : (d : Decision) (s : State) → is_for d s ≡ true → s ≡ done d
+for_done : (d : Decision) (s : Seen) → is_for d s ≡ true → s ≡ done d
 for_done Complete Absent e = cc
 for_done Complete Started e = cc
 for_done Complete Prepared e = cc
@@ -103,7 +111,7 @@ answer_of : (d : Decision) (o : Option Answer) → answer_is d o ≡ true → (a
 answer_of d None e = cc
 answer_of d (Some a) e = (a, refl, for_done d a.seen e)
 
-module _ (x : Txn) (parts : List ℕ) where
+module _ (x : TxnId) (parts : List ℕ) where
   -- from c to d at most the life e has decided
   pub record Ruled (c d : Core) (e : ℕ) : Type 0 where
     pub at : (q : ℕ) → d.at q ≡ c.at q
@@ -136,48 +144,48 @@ module _ (x : Txn) (parts : List ℕ) where
 
   gives_up_rules : (c : Core) → c.decided x.epoch ≡ None → Rules c x.epoch (Some Abort)
   gives_up_rules c n =
-      let r = ruled_by c (happens x.epoch parts c Give_up) x.epoch Abort n (reach_more x.epoch parts c Give_up) (cond_true _ _ c (none_test _ n)) in
-      (happens x.epoch parts c Give_up, r.0, r.1)
+      let r = ruled_by c (moved x.epoch parts c Give_up) x.epoch Abort n (reach_more x.epoch parts c Give_up) (cond_true _ _ c (none_test _ n)) in
+      (moved x.epoch parts c Give_up, r.0, r.1)
 
-  commits_rules : (c : Core) (ws : List ℕ) (ss : List State) → c.decided x.epoch ≡ None → answers x.epoch c.notes parts ws ≡ Some ss → every is_prepared ss ≡ true → Rules c x.epoch (Some Complete)
+  commits_rules : (c : Core) (ws : List ℕ) (ss : List Seen) → c.decided x.epoch ≡ None → answers x.epoch c.notes parts ws ≡ Some ss → every is_prepared ss ≡ true → Rules c x.epoch (Some Complete)
   commits_rules c ws ss n a v =
       let m = Commit ws in
-      let r = ruled_by c (happens x.epoch parts c m) x.epoch Complete n (reach_more x.epoch parts c m) (cond_true _ _ c (none_test _ n) ∙ ap (commits_by c x.epoch) a ∙ cond_true _ _ c v) in
-      (happens x.epoch parts c m, r.0, r.1)
+      let r = ruled_by c (moved x.epoch parts c m) x.epoch Complete n (reach_more x.epoch parts c m) (cond_true _ _ c (none_test _ n) ∙ ap (commits_by c x.epoch) a ∙ cond_true _ _ c v) in
+      (moved x.epoch parts c m, r.0, r.1)
 
-  decides_rules : (c : Core) (e : ℕ) (ws : List ℕ) (ss : List State) → x.epoch < e → c.decided e ≡ None → answers e c.notes parts ws ≡ Some ss → Rules c e (Some (decide ss))
+  decides_rules : (c : Core) (e : ℕ) (ws : List ℕ) (ss : List Seen) → x.epoch < e → c.decided e ≡ None → answers e c.notes parts ws ≡ Some ss → Rules c e (Some (decision_by ss))
   decides_rules c e ws ss l n a =
       let m = Decide e ws in
-      let r = ruled_by c (happens x.epoch parts c m) e (decide ss) n (reach_more x.epoch parts c m) (cond_true _ _ c (and_true (nat_lt x.epoch e) _ (lt_is _ _ l) (none_test _ n)) ∙ ap (decides_by c e) a) in
-      (happens x.epoch parts c m, r.0, r.1)
+      let r = ruled_by c (moved x.epoch parts c m) e (decision_by ss) n (reach_more x.epoch parts c m) (cond_true _ _ c (and_true (nat_lt x.epoch e) _ (lt_is _ _ l) (none_test _ n)) ∙ ap (decides_by c e) a) in
+      (moved x.epoch parts c m, r.0, r.1)
 
   rules_as : (c : Core) (e f : ℕ) (o r : Option Decision) → f ≡ e → o ≡ r → Rules c f o → Rules c e r
   rules_as c e f o r i j u = subst (λ v. Rules c v r) i (subst (Rules c f) j u)
 
-  by_mine : (h : Past) (e : ℕ) (j : Job) (ss : List State) → OfX x parts h e j → h.core.decided e ≡ None → Taken e j.answers parts ss → e ≡ x.epoch → Rules h.core e (Some (decide ss))
+  by_mine : (h : Past) (e : ℕ) (j : Job) (ss : List Seen) → OfX x parts h e j → h.core.decided e ≡ None → Taken e j.answers parts ss → e ≡ x.epoch → Rules h.core e (Some (decision_by ss))
   by_mine h e j ss o n t i =
       let free : h.core.decided x.epoch ≡ None = ap h.core.decided (sym i) ∙ n in
-      ⊎_elim (λ k. rules_as h.core e x.epoch (Some Abort) (Some (decide ss)) (sym i) (ap Some (sym k)) (gives_up_rules h.core free))
+      ⊎_elim (λ k. rules_as h.core e x.epoch (Some Abort) (Some (decision_by ss)) (sym i) (ap Some (sym k)) (gives_up_rules h.core free))
       (λ k.
       let w = picks e j.answers h.core.notes parts ss is_prepared t k.1 (λ p a f v. (o.answers p a f).prepared (was_prepared a.seen v)) in
-      rules_as h.core e x.epoch (Some Complete) (Some (decide ss)) (sym i) (ap Some (sym k.0)) (commits_rules h.core w.0 ss free (subst (λ v. answers v h.core.notes parts w.0 ≡ Some ss) i w.1) k.1))
-      (own_choice (any is_completed ss) (any is_aborted ss) (every is_prepared ss) (decide ss) refl (none_completed e j.answers parts ss t (λ p a f. (o.answers p a f).own (sym i))))
+      rules_as h.core e x.epoch (Some Complete) (Some (decision_by ss)) (sym i) (ap Some (sym k.0)) (commits_rules h.core w.0 ss free (subst (λ v. answers v h.core.notes parts w.0 ≡ Some ss) i w.1) k.1))
+      (own_choice (any is_completed ss) (any is_aborted ss) (every is_prepared ss) (decision_by ss) refl (none_completed e j.answers parts ss t (λ p a f. (o.answers p a f).own (sym i))))
 
-  by_other : (h : Past) (e : ℕ) (j : Job) (ss : List State) → OfX x parts h e j → h.core.decided e ≡ None → Taken e j.answers parts ss → x.epoch < e → Rules h.core e (Some (decide ss))
+  by_other : (h : Past) (e : ℕ) (j : Job) (ss : List Seen) → OfX x parts h e j → h.core.decided e ≡ None → Taken e j.answers parts ss → x.epoch < e → Rules h.core e (Some (decision_by ss))
   by_other h e j ss o n t l =
       let w = picks e j.answers h.core.notes parts ss (λ _. true) t (every_state ss) (λ p a f _. (o.answers p a f).above l) in
       decides_rules h.core e w.0 ss l n w.1
 
-  by_taken : (h : Past) (e : ℕ) (j : Job) (ss : List State) → OfX x parts h e j → h.core.decided e ≡ None → Taken e j.answers parts ss → Rules h.core e (Some (decide ss))
+  by_taken : (h : Past) (e : ℕ) (j : Job) (ss : List Seen) → OfX x parts h e j → h.core.decided e ≡ None → Taken e j.answers parts ss → Rules h.core e (Some (decision_by ss))
   by_taken h e j ss o n t = ⊎_elim (λ b. by_mine h e j ss o n t (o.mine b)) (λ b. by_other h e j ss o n t (o.other b)) (both j.mine)
 
-  by_seen : (h : Past) (e : ℕ) (j : Job) (r : Option (List State)) → OfX x parts h e j → h.core.decided e ≡ j.decision → j.decision ≡ None → seen_all e j.answers parts ≡ r → Rules h.core e (with_decision j (option_map decide r)).decision
+  by_seen : (h : Past) (e : ℕ) (j : Job) (r : Option (List Seen)) → OfX x parts h e j → h.core.decided e ≡ j.decision → j.decision ≡ None → states_under e (map j.answers parts) ≡ r → Rules h.core e (with_decision j (option_map decision_by r)).decision
   by_seen h e j None o d n s = (h.core, ruled_none h.core e, d)
   by_seen h e j (Some ss) o d n s = by_taken h e j ss o (d ∙ n) (taken e j.answers parts ss s)
 
   job_rules : (h : Past) (e : ℕ) (j : Job) (q : Option Decision) → OfX x parts h e j → h.core.decided e ≡ j.decision → j.decision ≡ q → Rules h.core e (decided_job e q j).decision
   job_rules h e j (Some r) o d i = (h.core, ruled_none h.core e, d)
-  job_rules h e j None o d i = subst (λ v. Rules h.core e (with_decision j (option_map decide (seen_all e j.answers v))).decision) (sym o.named) (by_seen h e j (seen_all e j.answers parts) o d i refl)
+  job_rules h e j None o d i = subst (λ v. Rules h.core e (with_decision j (option_map decision_by (states_under e (map j.answers v)))).decision) (sym o.named) (by_seen h e j (states_under e (map j.answers parts)) o d i refl)
 
   found_rules : (h : Past) (e begun : ℕ) (js : List Job) (f : Job → Job) (o : Option Job) → JobsFine x parts h e begun js → find x js ≡ o → ((j : Job) → OfX x parts h e j → h.core.decided e ≡ j.decision → Rules h.core e (f j).decision) → Rules h.core e (decision_of (option_map f o))
   found_rules h e begun js f None i k r = (h.core, ruled_none h.core e, i.decided ∙ ap decision_of k)
@@ -253,7 +261,7 @@ module _ (x : Txn) (parts : List ℕ) where
   given_txn j true = refl
   given_txn j false = refl
 
-  pub give_up_fine : (h : Past) (e begun : ℕ) (js : List Job) (y : Txn) → JobsFine x parts h e begun js → Decided h e begun (map (given_up y) js)
+  pub give_up_fine : (h : Past) (e begun : ℕ) (js : List Job) (y : TxnId) → JobsFine x parts h e begun js → Decided h e begun (map (given_up y) js)
   give_up_fine h e begun js y i =
       let test = λ (j : Job). same y j.txn && (j.mine && is_none j.decision) in
       let r = found_rules h e begun js (given_up y) (find x js) i refl (λ j o d. given_if h e j (test j) o d (λ t.

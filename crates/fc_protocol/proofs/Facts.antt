@@ -1,9 +1,21 @@
 -- What holds in every world, for one transaction x with these participants.
 use Rattle.std.proofs.Common.{◌≡◌, ◌≢◌, ℕ, ◌+◌, ◌*◌, ◌<◌, ◌≤◌, Bool, true, false, cond, List, [], ◌∷◌, Option, Some, None, is_some, refl, sym, ap, ◌∙◌}
-use Rattle.fc_protocol.specs.Core.{State, Absent, Started, Prepared, Completed, Aborted, Decision, Complete, Abort, Note, Element, Core, among}
-use Rattle.fc_protocol.specs.Elements.{Txn, same, Entry, Stamp, Body, Claim, Sot, Mot, Eot, Trcomp, Abt, Ask, Ask_record, Plain, is_query, Message, Setup, Request, Reply, Holds, Tells, Other_up, Other_down, Sent, sent, state_of, El, Fact, Opened_at, Prepared_at, Settled_at, Claimed_at}
-use Rattle.fc_protocol.specs.Masters.{Answer, Job, Waiting, Peer, Master, find, count_of}
-use Rattle.fc_protocol.specs.World.{Begun, World}
+use Rattle.fc_protocol.specs.Agreement.{decision_of}
+use Rattle.fc_protocol.specs.Collections.{among}
+use Rattle.fc_protocol.specs.Core.{Note, Element, Core}
+use Rattle.fc_protocol.specs.ElementMachine.{ElementState}
+use Rattle.fc_protocol.specs.Jobs.{Job, find}
+use Rattle.fc_protocol.specs.MasterMachine.{Waiting, Peer, Master, count_of}
+use Rattle.fc_protocol.specs.Messages.{Malformed, Beat, Unread, same, Entry, Stamp, Body, Claim, Sot, Mot, Eot, Trcomp, Abt, Ask, Ask_record, Plain, is_query, Message, Setup, Request, Reply, Holds, Tells, Other_up, Other_down, Sent, sent}
+use Rattle.fc_protocol.specs.Records.{is_held, seen, state_of}
+use Rattle.fc_protocol.specs.Trace.{Fact, Opened_at, Prepared_at, Settled_at, Claimed_at}
+use Rattle.fc_protocol.specs.WorldSteps.{Begun, World}
+use Rattle.fc_protocol.specs.declared.ids.Answer.{Answer}
+use Rattle.fc_protocol.specs.declared.ids.TxnId.{TxnId}
+use Rattle.fc_protocol.specs.declared.states.Decision.{Decision}
+use Rattle.fc_protocol.specs.declared.states.Decision.TheVariants.{Complete, Abort}
+use Rattle.fc_protocol.specs.declared.states.Seen.{Seen}
+use Rattle.fc_protocol.specs.declared.states.Seen.TheVariants.{Absent, Started, Prepared, Completed, Aborted}
 use Rattle.fc_protocol.proofs.Basics.{In, AllOf, all_on}
 use Rattle.fc_protocol.proofs.Moves.{Told, note, Reached, over}
 
@@ -21,28 +33,21 @@ past w c = record { core = c; sent = w.sent; used = w.used; begun = w.begun }
 abbrev pub Lives : Past → ℕ → ℕ → Type 0
 Lives h k e = (r : ℕ) × In r (h.used k) × (e ≡ 256 * r + k) × (k < 256)
 
-abbrev pub is_live : State → Bool
-is_live Absent = true
-is_live Started = true
-is_live Prepared = true
-is_live Completed = false
-is_live Aborted = false
-
 abbrev pub Asked : Past → ℕ → ℕ → Stamp → Body → Type 0
 Asked h p k s b = In (sent p k (Request s b)) h.sent
 
-abbrev pub is_open : State → Bool
+abbrev pub is_open : Seen → Bool
 is_open Absent = false
 is_open Started = true
 is_open Prepared = true
 is_open Completed = true
 is_open Aborted = false
 
-abbrev pub done : Decision → State
+abbrev pub done : Decision → Seen
 done Complete = Completed
 done Abort = Aborted
 
-abbrev pub has : Txn → List Entry → Bool
+abbrev pub has : TxnId → List Entry → Bool
 has x [] = false
 has x (n ∷ ns) = cond (same x n.txn) true (has x ns)
 
@@ -50,15 +55,11 @@ has x (n ∷ ns) = cond (same x n.txn) true (has x ns)
 abbrev pub Unique : List Sent → Type 0
 Unique ss = (p j k : ℕ) (s : Stamp) (a b : Body) → In (sent p j (Request s a)) ss → In (sent p k (Request s b)) ss → is_query a ≡ is_query b → a ≡ b
 
-abbrev pub decision_of : Option Job → Option Decision
-decision_of None = None
-decision_of (Some j) = j.decision
-
 pub done_over : (d : Decision) → over (done d) ≡ true
 done_over Complete = refl
 done_over Abort = refl
 
-module _ (x : Txn) (parts : List ℕ) where
+module _ (x : TxnId) (parts : List ℕ) where
   abbrev pub Born : Past → Type 0
   Born h = (b : Begun) × In b h.begun × (b.txn ≡ x)
 
@@ -68,7 +69,7 @@ module _ (x : Txn) (parts : List ℕ) where
 
   -- an entry of x at an element of this epoch
   abbrev pub EntryFine : Past → ℕ → Entry → Type 0
-  EntryFine h e n = n.txn ≡ x → (is_live n.state ≡ true → n.parts ≡ parts) × (x.epoch ≤ e) × Born h
+  EntryFine h e n = n.txn ≡ x → (is_held n.state ≡ true → n.parts ≡ parts) × (x.epoch ≤ e) × Born h
 
   abbrev pub HeldFine : Past → ℕ → Entry → Type 0
   HeldFine h e n = n.txn ≡ x → (n.parts ≡ parts) × (x.epoch ≤ e) × Born h
@@ -84,6 +85,7 @@ module _ (x : Txn) (parts : List ℕ) where
   Means h e p Ask = Unit {0}
   Means h e p (Ask_record y) = y ≡ x → x.epoch < e
   Means h e p Plain = Unit {0}
+  Means h e p Malformed = Unit {0}
 
   pub record RequestFine (h : Past) (k p : ℕ) (s : Stamp) (b : Body) : Type 0 where
     pub life : Lives h k s.life
@@ -100,7 +102,7 @@ module _ (x : Txn) (parts : List ℕ) where
     pub completed : code ≡ 0 → body ≡ Trcomp x → (h.core.at p).state ≡ Completed
     pub aborted : code ≡ 0 → body ≡ Abt x → (h.core.at p).state ≡ Aborted
 
-  pub record TellsFine (h : Past) (p : ℕ) (s : Stamp) (e : ℕ) (t : State) : Type 0 where
+  pub record TellsFine (h : Past) (p : ℕ) (s : Stamp) (e : ℕ) (t : Seen) : Type 0 where
     pub body : Body
     pub controller : ℕ
     pub asked : Asked h p controller s body
@@ -114,6 +116,8 @@ module _ (x : Txn) (parts : List ℕ) where
   MessageFine h p k (Reply s code) = ReplyFine h p s code
   MessageFine h p k (Holds s e ns) = AllOf (HeldFine h e) ns
   MessageFine h p k (Tells s e t) = TellsFine h p s e t
+  MessageFine h p k Beat = Unit {0}
+  MessageFine h p k (Unread s e) = Unit {0}
   MessageFine h p k Other_up = Unit {0}
   MessageFine h p k Other_down = Unit {0}
 
@@ -124,6 +128,8 @@ module _ (x : Txn) (parts : List ℕ) where
   abbrev pub KeptFine : Past → ℕ → Option Message → Type 0
   KeptFine h p None = Unit {0}
   KeptFine h p (Some Setup) = ⊥
+  KeptFine h p (Some Beat) = ⊥
+  KeptFine h p (Some (Unread s e)) = ⊥
   KeptFine h p (Some (Request s b)) = ⊥
   KeptFine h p (Some (Reply s code)) = ReplyFine h p s code
   KeptFine h p (Some (Holds s e ns)) = ⊥
@@ -154,9 +160,9 @@ module _ (x : Txn) (parts : List ℕ) where
   GoodFacts [] = Unit {0}
   GoodFacts (f ∷ fs) = GoodFact fs f × GoodFacts fs
 
-  pub record ElFine (h : Past) (p : ℕ) (el : El) (y : Element) : Type 0 where
+  pub record ElFine (h : Past) (p : ℕ) (el : ElementState) (y : Element) : Type 0 where
     pub epoch : el.epoch ≡ y.epoch
-    pub state : state_of x el.records ≡ y.state
+    pub state : seen (state_of x el.records) ≡ y.state
     pub entries : AllOf (EntryFine h el.epoch) el.records
     pub single : Single el.records
     pub kept : KeptFine h p el.kept
@@ -219,7 +225,7 @@ module _ (x : Txn) (parts : List ℕ) where
   pub record Later (h g : Past) : Type 0 where
     pub decided : (e : ℕ) (d : Decision) → h.core.decided e ≡ Some d → g.core.decided e ≡ Some d
     pub told : (n : Note) → Told h.core.notes n → Told g.core.notes n
-    pub final : (q : ℕ) (s : State) → over s ≡ true → (h.core.at q).state ≡ s → (g.core.at q).state ≡ s
+    pub final : (q : ℕ) (s : Seen) → over s ≡ true → (h.core.at q).state ≡ s → (g.core.at q).state ≡ s
     pub sent : (s : Sent) → In s h.sent → In s g.sent
     pub used : (k r : ℕ) → In r (h.used k) → In r (g.used k)
     pub born : Born h → Born g
@@ -244,6 +250,7 @@ module _ (x : Txn) (parts : List ℕ) where
     means_on e p Ask m = tt
     means_on e p (Ask_record y) m = m
     means_on e p Plain m = tt
+    means_on e p Malformed m = tt
 
     pub reply_on : (p : ℕ) (s : Stamp) (code : ℕ) → ReplyFine h p s code → ReplyFine g p s code
     reply_on p s code r = record { body = r.body; controller = r.controller; asked = l.sent _ r.asked; kind = r.kind; prepared = λ z e. l.told _ (r.prepared z e); completed = λ z e. l.final p Completed refl (r.completed z e); aborted = λ z e. l.final p Aborted refl (r.aborted z e) }
@@ -260,12 +267,16 @@ module _ (x : Txn) (parts : List ℕ) where
     message_on p k (Reply s code) f = reply_on p s code f
     message_on p k (Holds s e ns) f = all_on (HeldFine h e) (HeldFine g e) ns (held_on e) f
     message_on p k (Tells s e t) f = record { body = f.body; controller = f.controller; asked = l.sent _ f.asked; kind = f.kind; told = λ e. l.told _ (f.told e); ended = λ e i. l.final p t i (f.ended e i) }
+    message_on p k Beat f = tt
+    message_on p k (Unread s e) f = tt
     message_on p k Other_up f = tt
     message_on p k Other_down f = tt
 
     pub kept_on : (p : ℕ) (m : Option Message) → KeptFine h p m → KeptFine g p m
     kept_on p None f = tt
     kept_on p (Some Setup) f = f
+    kept_on p (Some Beat) f = f
+    kept_on p (Some (Unread s e)) f = f
     kept_on p (Some (Request s b)) f = f
     kept_on p (Some (Reply s code)) f = reply_on p s code f
     kept_on p (Some (Holds s e ns)) f = f
@@ -273,7 +284,7 @@ module _ (x : Txn) (parts : List ℕ) where
     kept_on p (Some Other_up) f = f
     kept_on p (Some Other_down) f = f
 
-    pub el_on : (p : ℕ) (el : El) (y z : Element) → z ≡ y → ElFine h p el y → ElFine g p el z
+    pub el_on : (p : ℕ) (el : ElementState) (y z : Element) → z ≡ y → ElFine h p el y → ElFine g p el z
     el_on p el y z e f = record {
       epoch = f.epoch ∙ ap (λ (v : Element). v.epoch) (sym e);
       state = f.state ∙ ap (λ (v : Element). v.state) (sym e);

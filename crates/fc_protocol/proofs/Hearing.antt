@@ -1,7 +1,15 @@
 -- An element hears a request.
 use Rattle.std.proofs.Common.{◌≡◌, ℕ, ◌+◌, ◌<◌, ◌≤◌, ◌==◌, ◌&&◌, Bool, true, false, cond, nat_lt, List, ◌∷◌, ◌++◌, Option, Some, None, ⊎_elim, refl, sym, ap, ◌∙◌, subst, arith, eqb-true, eq-eqb}
-use Rattle.fc_protocol.specs.Core.{Prepared, Element, Core, raised}
-use Rattle.fc_protocol.specs.Elements.{Txn, Stamp, Body, Claim, Sot, Mot, Eot, Trcomp, Abt, Ask, Ask_record, Plain, Luck, is_query, Message, Setup, Request, Reply, Holds, Tells, Other_up, Other_down, state_of, held, El, Verdict, Claims, Unclaimed, Stale, Again, Next, Gap, opens, judge, Heard, by_verdict, hears, acts, reply, unclaimed_code, only_says, Fact, Claimed_at, undone_facts}
+use Rattle.fc_protocol.specs.Core.{Element, Core, raised}
+use Rattle.fc_protocol.specs.ElementMachine.{configured, by_body, Circumstance, ElementState, Heard, by_verdict, hears, acts, reply, unclaimed_code, only_says}
+use Rattle.fc_protocol.specs.Fence.{judge, claims}
+use Rattle.fc_protocol.specs.Messages.{Malformed, Beat, Unread, is_epoch, claim_of, Stamp, Body, Claim, Sot, Mot, Eot, Trcomp, Abt, Ask, Ask_record, Plain, is_query, Message, Setup, Request, Reply, Holds, Tells, Other_up, Other_down}
+use Rattle.fc_protocol.specs.Records.{seen, state_of, held}
+use Rattle.fc_protocol.specs.Trace.{Fact, Claimed_at, undone_facts}
+use Rattle.fc_protocol.specs.declared.ids.TxnId.{TxnId}
+use Rattle.fc_protocol.specs.declared.states.Seen.TheVariants.{Prepared}
+use Rattle.fc_protocol.specs.declared.verdict.Verdict.{Verdict}
+use Rattle.fc_protocol.specs.declared.verdict.Verdict.TheVariants.{Claim as Claims, Unclaimed, Stale, Again, Next, Gap}
 use Rattle.fc_protocol.proofs.Puts.{both_first, both_second, put_keep}
 use Rattle.fc_protocol.proofs.Basics.{AllOf, all_on, both, put_other}
 use Rattle.fc_protocol.proofs.Moves.{Told, note, Turned, turned_none, raises, tells}
@@ -13,50 +21,60 @@ use Rattle.fc_protocol.proofs.Phases.{Given, acted_of}
 abbrev pub on : Past → Core → Past
 on h d = record { core = d; sent = h.sent; used = h.used; begun = h.begun }
 
-pick_next : (o u l a n : Bool) → cond o Claims (cond u Unclaimed (cond l (cond a Again (cond n Next Gap)) Stale)) ≡ Next → l ≡ true
-pick_next true u l a n e = cc
-pick_next false true l a n e = cc
-pick_next false false true a n e = refl
-pick_next false false false a n e = cc
+pick_next : (e : ℕ) (o u l a n : Bool) → cond o (Claims e) (cond u Unclaimed (cond l (cond a Again (cond n Next Gap)) Stale)) ≡ Next → l ≡ true
+pick_next f true u l a n e = cc
+pick_next f false true l a n e = cc
+pick_next f false false true a n e = refl
+pick_next f false false false a n e = cc
 
-pick_claims : (o u l a n : Bool) → cond o Claims (cond u Unclaimed (cond l (cond a Again (cond n Next Gap)) Stale)) ≡ Claims → o ≡ true
-pick_claims true u l a n e = refl
-pick_claims false true l a n e = cc
-pick_claims false false true true n e = cc
-pick_claims false false true false true e = cc
-pick_claims false false true false false e = cc
-pick_claims false false false a n e = cc
+pick_claims : (f g : ℕ) (o u l a n : Bool) → cond o (Claims f) (cond u Unclaimed (cond l (cond a Again (cond n Next Gap)) Stale)) ≡ Claims g → (o ≡ true) × (f ≡ g)
+pick_claims f g true u l a n e = (refl, cc)
+pick_claims f g false true l a n e = cc
+pick_claims f g false false true true n e = cc
+pick_claims f g false false true false true e = cc
+pick_claims f g false false true false false e = cc
+pick_claims f g false false false a n e = cc
 
-pub next_life : (el : El) (k : ℕ) (m : Stamp) (b : Body) → judge el k m b ≡ Next → m.life ≡ el.epoch
-next_life el k m b e = eqb-true _ _ (both_first (m.life == el.epoch) _ (pick_next (opens el k m b) (el.epoch == 0) (m.life == el.epoch && k == el.master) (m.count == el.sequence) (m.count == el.sequence + 1) e))
+abbrev pub verdict_on : ElementState → ℕ → Stamp → Body → Verdict
+verdict_on el k m b = judge el.epoch el.master el.sequence k m (claim_of b)
+
+pub next_life : (el : ElementState) (k : ℕ) (m : Stamp) (b : Body) → verdict_on el k m b ≡ Next → m.life ≡ el.epoch
+next_life el k m b e = eqb-true _ _ (both_first (m.life == el.epoch) _ (pick_next m.life (claims el.epoch k m (claim_of b)) (el.epoch == 0) (m.life == el.epoch && k == el.master) (m.count == el.sequence) (m.count == el.sequence + 1) e))
 
 below : (m n : ℕ) → nat_lt m n ≡ true → m < n
 below m n h = grind arith
 
-opens_claim : (el : El) (k : ℕ) (m : Stamp) (b : Body) → opens el k m b ≡ true → (b ≡ Claim m.life) × (el.epoch < m.life)
+opens_claim : (el : ElementState) (k : ℕ) (m : Stamp) (b : Body) → claims el.epoch k m (claim_of b) ≡ true → (b ≡ Claim m.life) × (el.epoch < m.life)
 opens_claim el k m (Claim w) e =
-    let s : m.life ≡ w = eqb-true _ _ (both_first (m.life == w) _ e) in
-    let l : el.epoch < w = below _ _ (both_first (nat_lt el.epoch w) _ (both_second (m.count == 0) _ (both_second (m.life == w) _ e))) in
+    let s : m.life ≡ w = eqb-true _ _ (both_first (m.life == w) _ (both_first (m.life == w && m.count == 0) _ e)) in
+    let l : el.epoch < w = below _ _ (both_first (nat_lt el.epoch w) _ (both_second (is_epoch w) _ (both_second (m.life == w && m.count == 0) _ e))) in
     (ap Claim (sym s), omega arith)
 opens_claim el k m (Sot y ps) e = cc
 opens_claim el k m (Mot y) e = cc
 opens_claim el k m (Eot y) e = cc
 opens_claim el k m (Trcomp y) e = cc
 opens_claim el k m (Abt y) e = cc
+opens_claim el k m Malformed e = cc
 opens_claim el k m Ask e = cc
 opens_claim el k m (Ask_record y) e = cc
 opens_claim el k m Plain e = cc
 
-pub claims_claim : (el : El) (k : ℕ) (m : Stamp) (b : Body) → judge el k m b ≡ Claims → (b ≡ Claim m.life) × (el.epoch < m.life)
-claims_claim el k m b e = opens_claim el k m b (pick_claims (opens el k m b) (el.epoch == 0) (m.life == el.epoch && k == el.master) (m.count == el.sequence) (m.count == el.sequence + 1) e)
+-- a claim that is taken is one of the life that the correlator names, which is above the element's epoch
+pub claims_claim : (el : ElementState) (k : ℕ) (m : Stamp) (b : Body) (g : ℕ) → verdict_on el k m b ≡ Claims g → (b ≡ Claim m.life) × (el.epoch < m.life) × (m.life ≡ g)
+claims_claim el k m b g e =
+    let r = pick_claims m.life g (claims el.epoch k m (claim_of b)) (el.epoch == 0) (m.life == el.epoch && k == el.master) (m.count == el.sequence) (m.count == el.sequence + 1) e in
+    let t = opens_claim el k m b r.0 in
+    (t.0, t.1, r.1)
 
-module _ (x : Txn) (parts : List ℕ) (h : Past) (fs : List Fact) where
+module _ (x : TxnId) (parts : List ℕ) (h : Past) (fs : List Fact) where
   pub later_turned : (d : Core) (p : ℕ) → Turned x.epoch parts h.core d p → Later x parts h (on h d)
   later_turned d p t = record { decided = λ e i u. t.decided e ∙ u; told = t.told; final = t.final; sent = λ s i. i; used = λ k r i. i; born = λ b. b }
 
   abbrev pub SaysFine : Past → ℕ → ℕ → Option Message → Type 0
   SaysFine g p k None = Unit {0}
   SaysFine g p k (Some Setup) = Unit {0}
+  SaysFine g p k (Some Beat) = Unit {0}
+  SaysFine g p k (Some (Unread s e)) = Unit {0}
   SaysFine g p k (Some (Request s b)) = ⊥
   SaysFine g p k (Some (Reply s code)) = ReplyFine x parts g p s code
   SaysFine g p k (Some (Holds s e ns)) = MessageFine x parts g p k (Holds s e ns)
@@ -75,6 +93,8 @@ module _ (x : Txn) (parts : List ℕ) (h : Past) (fs : List Fact) where
   kept_says : (g : Past) (p k : ℕ) (m : Option Message) → KeptFine x parts g p m → SaysFine g p k m
   kept_says g p k None f = tt
   kept_says g p k (Some Setup) f = tt
+  kept_says g p k (Some Beat) f = tt
+  kept_says g p k (Some (Unread s e)) f = tt
   kept_says g p k (Some (Request s b)) f = f
   kept_says g p k (Some (Reply s code)) f = f
   kept_says g p k (Some (Holds s e ns)) f = absurd f
@@ -83,7 +103,7 @@ module _ (x : Txn) (parts : List ℕ) (h : Past) (fs : List Fact) where
   kept_says g p k (Some Other_down) f = tt
 
   -- nothing changes
-  stays : (p k : ℕ) (el : El) (m : Option Message) → Before x parts h.core fs → ElFine x parts h p el (h.core.at p) → SaysFine h p k m → Went p k (only_says el m)
+  stays : (p k : ℕ) (el : ElementState) (m : Option Message) → Before x parts h.core fs → ElFine x parts h p el (h.core.at p) → SaysFine h p k m → Went p k (only_says el m)
   stays p k el m b f s = record { core = h.core; turned = turned_none x.epoch parts h.core p; element_fine = f; says_fine = s; marks = b.marks; good = b.good }
 
   refused : (p k : ℕ) (s : Stamp) (b : Body) (code : ℕ) → Asked h p k s b → is_query b ≡ false → (code ≡ 0 → b ≡ Plain) → ReplyFine x parts h p s code
@@ -97,19 +117,21 @@ module _ (x : Txn) (parts : List ℕ) (h : Past) (fs : List Fact) where
   reply_kept g p s code true r = tt
   reply_kept g p s code false r = r
 
-  unclaimed : (o : Luck) (b : Body) → unclaimed_code o b ≡ 0 → b ≡ Plain
-  unclaimed o Plain z = refl
-  unclaimed o (Claim w) z = absurd (omega arith)
-  unclaimed o (Sot y ps) z = absurd (omega arith)
-  unclaimed o (Mot y) z = absurd (omega arith)
-  unclaimed o (Eot y) z = absurd (omega arith)
-  unclaimed o (Trcomp y) z = absurd (omega arith)
-  unclaimed o (Abt y) z = absurd (omega arith)
-  unclaimed o Ask z = absurd (omega arith)
-  unclaimed o (Ask_record y) z = absurd (omega arith)
+  unclaimed : (first : Bool) (plain : ℕ) (b : Body) → unclaimed_code first plain b ≡ 0 → b ≡ Plain
+  unclaimed false plain b z = absurd (omega arith)
+  unclaimed true plain Plain z = refl
+  unclaimed true plain (Claim w) z = absurd (omega arith)
+  unclaimed true plain (Sot y ps) z = absurd (omega arith)
+  unclaimed true plain (Mot y) z = absurd (omega arith)
+  unclaimed true plain (Eot y) z = absurd (omega arith)
+  unclaimed true plain (Trcomp y) z = absurd (omega arith)
+  unclaimed true plain (Abt y) z = absurd (omega arith)
+  unclaimed true plain Malformed z = absurd (omega arith)
+  unclaimed true plain Ask z = absurd (omega arith)
+  unclaimed true plain (Ask_record y) z = absurd (omega arith)
 
-  claimed : (p k : ℕ) (el : El) (s : Stamp) (b : Body) (ok : Luck) → Before x parts h.core fs → ElFine x parts h p el (h.core.at p) → Asked h p k s b → is_query b ≡ false → (b ≡ Claim s.life) × (el.epoch < s.life) → Went p k (by_verdict p el k s b ok Claims)
-  claimed p k el s b ok v f a q c =
+  claimed : (p k from : ℕ) (el : ElementState) (s : Stamp) (b : Body) (ok : Circumstance) → Before x parts h.core fs → ElFine x parts h p el (h.core.at p) → Asked h p k s b → is_query b ≡ false → (b ≡ Claim s.life) × (el.epoch < s.life) → Went p k (by_verdict p el from ok s b (Claims s.life))
+  claimed p k from el s b ok v f a q c =
       let above : (h.core.at p).epoch < s.life = subst (λ n. n < s.life) f.epoch c.1 in
       let low : el.epoch ≤ s.life = let l : el.epoch < s.life = c.1 in omega arith in
       let t = raises x.epoch parts h.core p s.life above in
@@ -128,12 +150,12 @@ module _ (x : Txn) (parts : List ℕ) (h : Past) (fs : List Fact) where
         turned = t.1;
         element_fine = record {
           epoch = ap (λ (v : Element). v.epoch) (sym t.2);
-          state = state_undone x el.records ∙ raised_undone (state_of x el.records) ∙ ap raised f.state ∙ ap (λ (v : Element). v.state) (sym t.2);
+          state = ap seen (state_undone x el.records) ∙ raised_undone (state_of x el.records) ∙ ap raised f.state ∙ ap (λ (v : Element). v.state) (sym t.2);
           entries = all_on _ _ _ (entry_on x parts h (on h t.0) l s.life) (undone_fine x parts h el.epoch s.life el.records low f.entries);
           single = single_undone x parts el.records f.single;
-          kept = reply_kept (on h t.0) p s 0 ok.mute answer;
+          kept = reply_kept (on h t.0) p s 0 ok.quiet answer;
         };
-        says_fine = reply_says (on h t.0) p k s 0 ok.mute answer;
+        says_fine = reply_says (on h t.0) p k s 0 ok.quiet answer;
         marks = λ n. ⊎_elim (λ u.
             let w : n ≡ p = eqb-true n p u in
             subst (λ i. Marks x parts ((Claimed_at p s.life ∷ undone_facts p el.records) ++ fs) i (t.0.at i)) (sym w)
@@ -145,8 +167,8 @@ module _ (x : Txn) (parts : List ℕ) (h : Past) (fs : List Fact) where
         good = claim_good x parts fs p s.life el.records (h.core.at p) f.single f.state (v.marks p) v.good;
       }
 
-  next : (p k : ℕ) (el : El) (s : Stamp) (b : Body) (ok : Luck) → Before x parts h.core fs → ElFine x parts h p el (h.core.at p) → Asked h p k s b → Means x parts h s.life p b → is_query b ≡ false → s.life ≡ el.epoch → Went p k (by_verdict p el k s b ok Next)
-  next p k el s b ok v f a m q i =
+  next : (p k from : ℕ) (el : ElementState) (s : Stamp) (b : Body) (ok : Circumstance) → Before x parts h.core fs → ElFine x parts h p el (h.core.at p) → Asked h p k s b → Means x parts h s.life p b → is_query b ≡ false → s.life ≡ el.epoch → Went p k (by_verdict p el from ok s b Next)
+  next p k from el s b ok v f a m q i =
       let given : Given x parts h fs p el.records = record { before = v; state = f.state; entries = subst (λ v. AllOf (EntryFine x parts h v) el.records) f.epoch f.entries; single = f.single } in
       let t = acted_of x parts h fs p el.epoch ok b el.records f.epoch given (subst (λ v. Means x parts h v p b) (i ∙ f.epoch) m) in
       let l = later_turned t.core p t.turned in
@@ -160,23 +182,34 @@ module _ (x : Txn) (parts : List ℕ) (h : Past) (fs : List Fact) where
           state = t.state;
           entries = subst (λ v. AllOf (EntryFine x parts (on h t.core) v) (acts p el.epoch ok b el.records).records) (sym f.epoch) (all_on _ _ _ (entry_on x parts h (on h t.core) l (h.core.at p).epoch) t.entries);
           single = t.single;
-          kept = reply_kept (on h t.core) p s (acts p el.epoch ok b el.records).code ok.mute answer;
+          kept = reply_kept (on h t.core) p s (acts p el.epoch ok b el.records).code ok.quiet answer;
         };
-        says_fine = reply_says (on h t.core) p k s (acts p el.epoch ok b el.records).code ok.mute answer;
+        says_fine = reply_says (on h t.core) p k s (acts p el.epoch ok b el.records).code ok.quiet answer;
         marks = t.marks;
         good = t.good;
       }
 
-  by_judge : (p k : ℕ) (el : El) (s : Stamp) (b : Body) (ok : Luck) (v : Verdict) → Before x parts h.core fs → ElFine x parts h p el (h.core.at p) → Asked h p k s b → Means x parts h s.life p b → is_query b ≡ false → judge el k s b ≡ v → Went p k (by_verdict p el k s b ok v)
-  by_judge p k el s b ok Claims v f a m q e = claimed p k el s b ok v f a q (claims_claim el k s b e)
-  by_judge p k el s b ok Unclaimed v f a m q e = stays p k el (reply ok.mute s (unclaimed_code ok b)) v f (reply_says h p k s (unclaimed_code ok b) ok.mute (refused p k s b (unclaimed_code ok b) a q (unclaimed ok b)))
-  by_judge p k el s b ok Stale v f a m q e = stays p k el (reply ok.mute s 12) v f (reply_says h p k s 12 ok.mute (refused p k s b 12 a q (λ z. absurd (omega arith))))
-  by_judge p k el s b ok Again v f a m q e = stays p k el el.kept v f (kept_says h p k el.kept f.kept)
-  by_judge p k el s b ok Next v f a m q e = next p k el s b ok v f a m q (next_life el k s b e)
-  by_judge p k el s b ok Gap v f a m q e = stays p k el (reply ok.mute s 16) v f (reply_says h p k s 16 ok.mute (refused p k s b 16 a q (λ z. absurd (omega arith))))
+  by_judge : (p k from : ℕ) (el : ElementState) (s : Stamp) (b : Body) (ok : Circumstance) (v : Verdict) → Before x parts h.core fs → ElFine x parts h p el (h.core.at p) → Asked h p k s b → Means x parts h s.life p b → is_query b ≡ false → verdict_on el from s b ≡ v → Went p k (by_verdict p el from ok s b v)
+  by_judge p k from el s b ok (Claims g) v f a m q e = let c = claims_claim el from s b g e in subst (λ n. Went p k (by_verdict p el from ok s b (Claims n))) c.2 (claimed p k from el s b ok v f a q (c.0, c.1))
+  by_judge p k from el s b ok Unclaimed v f a m q e =
+      let code = unclaimed_code (from == el.ce) ok.plain b in
+      stays p k el (reply ok.quiet s code) v f (reply_says h p k s code ok.quiet (refused p k s b code a q (unclaimed (from == el.ce) ok.plain b)))
+  by_judge p k from el s b ok Stale v f a m q e = stays p k el (reply ok.quiet s 12) v f (reply_says h p k s 12 ok.quiet (refused p k s b 12 a q (λ z. absurd (omega arith))))
+  by_judge p k from el s b ok Again v f a m q e = stays p k el el.kept v f (kept_says h p k el.kept f.kept)
+  by_judge p k from el s b ok Next v f a m q e = next p k from el s b ok v f a m q (next_life el from s b e)
+  by_judge p k from el s b ok Gap v f a m q e = stays p k el (reply ok.quiet s 16) v f (reply_says h p k s 16 ok.quiet (refused p k s b 16 a q (λ z. absurd (omega arith))))
+
+  by_misfit : (p k from : ℕ) (el : ElementState) (s : Stamp) (b : Body) (ok : Circumstance) (fits : Bool) → (ok.misfit == 0) ≡ fits → Before x parts h.core fs → ElFine x parts h p el (h.core.at p) → Asked h p k s b → Means x parts h s.life p b → is_query b ≡ false
+      → Went p k (cond fits (by_verdict p el from ok s b (verdict_on el from s b)) (only_says el (reply ok.quiet s ok.misfit)))
+  by_misfit p k from el s b ok true i v f a m q = by_judge p k from el s b ok (verdict_on el from s b) v f a m q refl
+  by_misfit p k from el s b ok false i v f a m q =
+      stays p k el (reply ok.quiet s ok.misfit) v f (reply_says h p k s ok.misfit ok.quiet (refused p k s b ok.misfit a q (λ z. let t : true ≡ false = sym (eq-eqb ok.misfit 0 z) ∙ i in cc)))
+
+  config : (p k from : ℕ) (el : ElementState) (ok : Circumstance) (s : Stamp) (b : Body) → Before x parts h.core fs → ElFine x parts h p el (h.core.at p) → Asked h p k s b → Means x parts h s.life p b → is_query b ≡ false → Went p k (configured p el from ok s b)
+  config p k from el ok s b v f a m q = by_misfit p k from el s b ok (ok.misfit == 0) refl v f a m q
 
   -- the record of y is told
-  told : (p k : ℕ) (el : El) (s : Stamp) (y : Txn) → Before x parts h.core fs → ElFine x parts h p el (h.core.at p) → Asked h p k s (Ask_record y) → Went p k (only_says el (Some (Tells s el.epoch (state_of y el.records))))
+  told : (p k : ℕ) (el : ElementState) (s : Stamp) (y : TxnId) → Before x parts h.core fs → ElFine x parts h p el (h.core.at p) → Asked h p k s (Ask_record y) → Went p k (only_says el (Some (Tells s el.epoch (seen (state_of y el.records)))))
   told p k el s y v f a =
       let t = tells x.epoch parts h.core p in
       let l = later_turned t.0 p t.1 in
@@ -191,24 +224,32 @@ module _ (x : Txn) (parts : List ℕ) (h : Past) (fs : List Fact) where
           kind = refl;
           told = λ e.
               let i : y ≡ x = cc in
-              subst (λ v. Told t.0.notes (note el.epoch p (state_of v el.records))) (sym i) (subst (λ v. Told t.0.notes (note el.epoch p v)) (sym f.state) (subst (λ v. Told t.0.notes (note v p (h.core.at p).state)) (sym f.epoch) t.3));
-          ended = λ e o. let i : y ≡ x = cc in ap (λ (v : Element). v.state) t.2 ∙ sym f.state ∙ ap (λ v. state_of v el.records) (sym i);
+              subst (λ v. Told t.0.notes (note el.epoch p (seen (state_of v el.records)))) (sym i) (subst (λ v. Told t.0.notes (note el.epoch p v)) (sym f.state) (subst (λ v. Told t.0.notes (note v p (h.core.at p).state)) (sym f.epoch) t.3));
+          ended = λ e o. let i : y ≡ x = cc in ap (λ (v : Element). v.state) t.2 ∙ sym f.state ∙ ap (λ v. seen (state_of v el.records)) (sym i);
         };
         marks = λ n. subst (Marks x parts fs n) (sym (t.1.at n ∙ put_keep h.core.at p (t.0.at p) n (h.core.at n) refl (λ z. t.2 ∙ ap h.core.at (sym z)))) (v.marks n);
         good = v.good;
       }
 
-  pub went : (p k : ℕ) (el : El) (ok : Luck) (s : Stamp) (b : Body) → Before x parts h.core fs → ElFine x parts h p el (h.core.at p) → Asked h p k s b → Means x parts h s.life p b → Went p k (hears p el k ok s b)
-  went p k el ok s Ask v f a m = stays p k el (Some (Holds s el.epoch (held el.records))) v f (held_fine x parts h el.epoch el.records f.entries)
-  went p k el ok s (Ask_record y) v f a m = told p k el s y v f a
-  went p k el ok s (Claim w) v f a m = by_judge p k el s (Claim w) ok (judge el k s (Claim w)) v f a m refl refl
-  went p k el ok s (Sot y ps) v f a m = by_judge p k el s (Sot y ps) ok (judge el k s (Sot y ps)) v f a m refl refl
-  went p k el ok s (Mot y) v f a m = by_judge p k el s (Mot y) ok (judge el k s (Mot y)) v f a m refl refl
-  went p k el ok s (Eot y) v f a m = by_judge p k el s (Eot y) ok (judge el k s (Eot y)) v f a m refl refl
-  went p k el ok s (Trcomp y) v f a m = by_judge p k el s (Trcomp y) ok (judge el k s (Trcomp y)) v f a m refl refl
-  went p k el ok s (Abt y) v f a m = by_judge p k el s (Abt y) ok (judge el k s (Abt y)) v f a m refl refl
-  went p k el ok s Plain v f a m = by_judge p k el s Plain ok (judge el k s Plain) v f a m refl refl
+  asked_fit : (p k : ℕ) (el : ElementState) (s : Stamp) (answer : Message) (fits : Bool) → Before x parts h.core fs → ElFine x parts h p el (h.core.at p) → Went p k (only_says el (Some answer)) → Went p k (only_says el (cond fits (Some answer) (Some (Unread s None))))
+  asked_fit p k el s answer true v f w = w
+  asked_fit p k el s answer false v f w = stays p k el (Some (Unread s None)) v f tt
 
-  pub went_if : (p k : ℕ) (el : El) (ok : Luck) (s : Stamp) (b : Body) (deaf : Bool) → Before x parts h.core fs → ElFine x parts h p el (h.core.at p) → Asked h p k s b → Means x parts h s.life p b → Went p k (cond deaf (only_says el None) (hears p el k ok s b))
-  went_if p k el ok s b true v f a m = stays p k el None v f tt
-  went_if p k el ok s b false v f a m = went p k el ok s b v f a m
+  by_kind : (p k from : ℕ) (el : ElementState) (ok : Circumstance) (s : Stamp) (b : Body) → Before x parts h.core fs → ElFine x parts h p el (h.core.at p) → Asked h p k s b → Means x parts h s.life p b → Went p k (by_body p el from ok s b)
+  by_kind p k from el ok s Ask v f a m = asked_fit p k el s (Holds s el.epoch (held el.records)) (ok.misfit == 0) v f (stays p k el (Some (Holds s el.epoch (held el.records))) v f (held_fine x parts h el.epoch el.records f.entries))
+  by_kind p k from el ok s (Ask_record y) v f a m = asked_fit p k el s (Tells s el.epoch (seen (state_of y el.records))) (ok.misfit == 0) v f (told p k el s y v f a)
+  by_kind p k from el ok s (Claim w) v f a m = config p k from el ok s (Claim w) v f a m refl
+  by_kind p k from el ok s (Sot y ps) v f a m = config p k from el ok s (Sot y ps) v f a m refl
+  by_kind p k from el ok s (Mot y) v f a m = config p k from el ok s (Mot y) v f a m refl
+  by_kind p k from el ok s (Eot y) v f a m = config p k from el ok s (Eot y) v f a m refl
+  by_kind p k from el ok s (Trcomp y) v f a m = config p k from el ok s (Trcomp y) v f a m refl
+  by_kind p k from el ok s (Abt y) v f a m = config p k from el ok s (Abt y) v f a m refl
+  by_kind p k from el ok s Malformed v f a m = config p k from el ok s Malformed v f a m refl
+  by_kind p k from el ok s Plain v f a m = config p k from el ok s Plain v f a m refl
+
+  went_if : (p k from : ℕ) (el : ElementState) (ok : Circumstance) (s : Stamp) (b : Body) (unheard : Bool) → Before x parts h.core fs → ElFine x parts h p el (h.core.at p) → Asked h p k s b → Means x parts h s.life p b → Went p k (cond unheard (only_says el None) (by_body p el from ok s b))
+  went_if p k from el ok s b true v f a m = stays p k el None v f tt
+  went_if p k from el ok s b false v f a m = by_kind p k from el ok s b v f a m
+
+  pub went : (p k from : ℕ) (el : ElementState) (ok : Circumstance) (s : Stamp) (b : Body) → Before x parts h.core fs → ElFine x parts h p el (h.core.at p) → Asked h p k s b → Means x parts h s.life p b → Went p k (hears p el from ok s b)
+  went p k from el ok s b v f a m = went_if p k from el ok s b ok.unheard v f a m

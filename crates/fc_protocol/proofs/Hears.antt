@@ -1,8 +1,12 @@
 -- A master hears a message: the core stays, and so do all facts about the master.
 use Rattle.std.proofs.Common.{◌≡◌, ℕ, ◌<◌, ◌≤◌, ◌==◌, ◌||◌, not, Bool, true, false, cond, nat_lt, List, Option, Some, None, refl, sym, ap, ◌∙◌, subst, arith, eqb-true}
-use Rattle.fc_protocol.specs.Core.{State, Prepared, put}
-use Rattle.fc_protocol.specs.Elements.{Txn, Entry, Stamp, same_stamp, Body, Claim, Sot, Mot, Eot, Trcomp, Abt, Ask, Ask_record, Plain, is_query, Message, Setup, Request, Reply, Holds, Tells, Other_up, Other_down, Sent, sent}
-use Rattle.fc_protocol.specs.Masters.{Waiting, Peer, Master, at_put, after_code, after_ask, unmatched, dropped, depose, matches, coded, is_lower, by_epoch, held_by, held_told, record_by, record_told, heard, seen}
+use Rattle.fc_protocol.specs.Collections.{among, put}
+use Rattle.fc_protocol.specs.Jobs.{answer}
+use Rattle.fc_protocol.specs.MasterMachine.{unread_told, Waiting, Peer, Master, at_put, after_code, after_ask, unmatched, dropped, depose, matches, coded, is_lower, by_epoch, held_by, held_told, record_by, record_told, heard}
+use Rattle.fc_protocol.specs.Messages.{Malformed, Beat, Unread, Entry, Stamp, same_stamp, Body, Claim, Sot, Mot, Eot, Trcomp, Abt, Ask, Ask_record, Plain, is_query, Message, Setup, Request, Reply, Holds, Tells, Other_up, Other_down, Sent, sent}
+use Rattle.fc_protocol.specs.declared.ids.TxnId.{TxnId}
+use Rattle.fc_protocol.specs.declared.states.Seen.{Seen}
+use Rattle.fc_protocol.specs.declared.states.Seen.TheVariants.{Prepared}
 use Rattle.fc_protocol.proofs.Puts.{both_first, both_second, put_all}
 use Rattle.fc_protocol.proofs.Basics.{In, AllOf, stamp_true, none_some}
 use Rattle.fc_protocol.proofs.Moves.{Told, note, over}
@@ -27,7 +31,7 @@ is_not false e = refl
 is_zero : (n : ℕ) → (n == 0) ≡ true → n ≡ 0
 is_zero n e = eqb-true n 0 e
 
-module _ (x : Txn) (parts : List ℕ) (h : Past) (k : ℕ) where
+module _ (x : TxnId) (parts : List ℕ) (h : Past) (k : ℕ) where
   -- a peer that waits for nothing, with the same counts
   idle : (e p : ℕ) (y z : Peer) → z.waits ≡ None → z.last ≡ y.last → z.queries ≡ y.queries → PeerFine x parts h k e p y → PeerFine x parts h k e p z
   idle e p y z n l q f = record {
@@ -99,15 +103,16 @@ module _ (x : Txn) (parts : List ℕ) (h : Past) (k : ℕ) where
   held_fine_by m p ns (Trcomp y) f a = f
   held_fine_by m p ns (Abt y) f a = f
   held_fine_by m p ns Plain f a = f
+  held_fine_by m p ns Malformed f a = f
 
   held_fine : (m : Master) (p : ℕ) (ns : List Entry) (w : Option Waiting) → MasterFine x parts h k m → AllOf (HeldFine x parts h m.epoch) ns → MasterFine x parts h k (held_told m p ns w)
   held_fine m p ns None f a = f
   held_fine m p ns (Some o) f a = held_fine_by m p ns o.body f a
 
-  record_fine_by : (m : Master) (p : ℕ) (t : State) (b : Body) → MasterFine x parts h k m → Means x parts h m.epoch p b → (b ≡ Ask_record x → Told h.core.notes (note m.epoch p t) × (over t ≡ true → (h.core.at p).state ≡ t)) → MasterFine x parts h k (record_by m p m.epoch t b)
+  record_fine_by : (m : Master) (p : ℕ) (t : Seen) (b : Body) → MasterFine x parts h k m → Means x parts h m.epoch p b → (b ≡ Ask_record x → Told h.core.notes (note m.epoch p t) × (over t ≡ true → (h.core.at p).state ≡ t)) → MasterFine x parts h k (record_by m p m.epoch t b)
   record_fine_by m p t (Ask_record y) f n v =
       with_peer m (record_by m p m.epoch t (Ask_record y)) p (dropped (m.at p)) refl refl (λ _. refl) f (idle m.epoch p (m.at p) (dropped (m.at p)) refl refl refl (f.peers p))
-      (answer_fine x parts h m.epoch m.begun m.jobs y p (seen m.epoch t) f.jobs (λ i.
+      (answer_fine x parts h m.epoch m.begun m.jobs y p (answer m.epoch t) f.jobs (λ i.
       let told = v (ap Ask_record i) in
       let above : x.epoch < m.epoch = n i in
       record { above = λ _. told.0; prepared = λ _. told.0; own = λ j. absurd (omega arith); ended = λ _ o. told.1 o }))
@@ -119,8 +124,9 @@ module _ (x : Txn) (parts : List ℕ) (h : Past) (k : ℕ) where
   record_fine_by m p t (Trcomp y) f n v = f
   record_fine_by m p t (Abt y) f n v = f
   record_fine_by m p t Plain f n v = f
+  record_fine_by m p t Malformed f n v = f
 
-  record_fine : (m : Master) (p : ℕ) (s : Stamp) (t : State) (w : Option Waiting) → MasterFine x parts h k m → ((t : Sent) → In t h.sent → SentFine x parts h t) → Unique h.sent → TellsFine x parts h p s m.epoch t → (m.at p).waits ≡ w → matches s true w ≡ true
+  record_fine : (m : Master) (p : ℕ) (s : Stamp) (t : Seen) (w : Option Waiting) → MasterFine x parts h k m → ((t : Sent) → In t h.sent → SentFine x parts h t) → Unique h.sent → TellsFine x parts h p s m.epoch t → (m.at p).waits ≡ w → matches s true w ≡ true
       → MasterFine x parts h k (record_told m p m.epoch t w)
   record_fine m p s t None f all u r w e = f
   record_fine m p s t (Some o) f all u r w e =
@@ -135,8 +141,16 @@ module _ (x : Txn) (parts : List ℕ) (h : Past) (k : ℕ) where
       (λ a. cond_all (MasterFine x parts h k) (is_lower m p e) (at_put m p (unmatched (m.at p))) n (λ _. unmatch m p f)
       (λ b. let low : e ≤ m.epoch = not_above _ _ a in let high : m.epoch ≤ e = not_above _ _ (or_first (nat_lt e m.epoch) _ b) in g (omega arith)))
 
+  unread_fine : (m : Master) (p : ℕ) (e : Option ℕ) → MasterFine x parts h k m → MasterFine x parts h k (unread_told m p e)
+  unread_fine m p None f = unmatch m p f
+  unread_fine m p (Some e) f = epoch_fine m (at_put m p (unmatched (m.at p))) p e f (λ _. unmatch m p f)
+
   pub hears_fine : (m : Master) (p : ℕ) (t : Message) → MasterFine x parts h k m → ((t : Sent) → In t h.sent → SentFine x parts h t) → Unique h.sent → MessageFine x parts h p k t → MasterFine x parts h k (heard m p t)
-  hears_fine m p Setup f all u g = with_peer m (heard m p Setup) p (record (m.at p) { met = true }) refl refl (λ _. refl) f (marked m.epoch p (m.at p) (record (m.at p) { met = true }) refl refl refl (f.peers p)) f.jobs
+  hears_fine m p Setup f all u g =
+      let n = at_put m p (record (m.at p) { met = true }) in
+      cond_all (MasterFine x parts h k) (among p m.elements) n m (λ _. with_peer m n p (record (m.at p) { met = true }) refl refl (λ _. refl) f (marked m.epoch p (m.at p) (record (m.at p) { met = true }) refl refl refl (f.peers p)) f.jobs) (λ _. f)
+  hears_fine m p Beat f all u g = f
+  hears_fine m p (Unread s e) f all u g = cond_all (MasterFine x parts h k) (matches s true (m.at p).waits) (unread_told m p e) m (λ _. unread_fine m p e f) (λ _. f)
   hears_fine m p (Request s b) f all u g = f
   hears_fine m p (Reply s code) f all u g = cond_all (MasterFine x parts h k) (matches s false (m.at p).waits) _ m (λ e. replied m p s code (m.at p).waits f all u g refl e) (λ _. f)
   hears_fine m p (Holds s e ns) f all u g =

@@ -1,26 +1,32 @@
 -- Jobs of a master, seen from one transaction.
 use Rattle.std.proofs.Common.{◌≡◌, ◌≢◌, ℕ, ◌≤◌, Bool, true, false, cond, List, [], ◌∷◌, ◌++◌, map, Option, Some, None, is_some, option_map, ◌⊎◌, inl, inr, ⊎_elim, refl, sym, ap, ◌∙◌, subst, arith}
-use Rattle.fc_protocol.specs.Core.{Prepared, Completed, Aborted, Decision, Complete, Abort}
-use Rattle.fc_protocol.specs.Elements.{Txn, same, Entry, Body, Claim, Sot, Mot, Eot, Trcomp, Abt, Ask, Ask_record, Plain}
-use Rattle.fc_protocol.specs.Masters.{Answer, Job, find, or_next, on_job, answered_by, went_on, settled_at, stuck_at, seen, by_code, recovered, discover}
+use Rattle.fc_protocol.specs.Agreement.{decision_of}
+use Rattle.fc_protocol.specs.Collections.{or_next}
+use Rattle.fc_protocol.specs.Jobs.{answer, Job, find, on_job, answered_by, went_on, settled_at, stuck_at, by_code, recovered, discover}
+use Rattle.fc_protocol.specs.Messages.{Malformed, same, Entry, Body, Claim, Sot, Mot, Eot, Trcomp, Abt, Ask, Ask_record, Plain}
+use Rattle.fc_protocol.specs.declared.ids.Answer.{Answer}
+use Rattle.fc_protocol.specs.declared.ids.TxnId.{TxnId}
+use Rattle.fc_protocol.specs.declared.states.Decision.{Decision}
+use Rattle.fc_protocol.specs.declared.states.Decision.TheVariants.{Complete, Abort}
+use Rattle.fc_protocol.specs.declared.states.Seen.TheVariants.{Prepared, Completed, Aborted}
 use Rattle.fc_protocol.proofs.Puts.{put_cases}
 use Rattle.fc_protocol.proofs.Basics.{In, AllOf, all_append, cond_true, cond_false, both, same_true, same_of}
 use Rattle.fc_protocol.proofs.Moves.{Told, note}
-use Rattle.fc_protocol.proofs.Facts.{Past, Born, HeldFine, Means, AnswerFine, OfX, JobFine, Once, JobsFine, decision_of, done}
+use Rattle.fc_protocol.proofs.Facts.{Past, Born, HeldFine, Means, AnswerFine, OfX, JobFine, Once, JobsFine, done}
 
 find_if : (g : Job → Job) (b : Bool) (j : Job) (r s : Option Job) → r ≡ option_map g s → cond b (Some (g j)) r ≡ option_map g (cond b (Some j) s)
 find_if g true j r s e = refl
 find_if g false j r s e = e
 
-pub find_map : (x : Txn) (g : Job → Job) (js : List Job) → ((j : Job) → (g j).txn ≡ j.txn) → find x (map g js) ≡ option_map g (find x js)
+pub find_map : (x : TxnId) (g : Job → Job) (js : List Job) → ((j : Job) → (g j).txn ≡ j.txn) → find x (map g js) ≡ option_map g (find x js)
 find_map x g [] k = refl
-find_map x g (j ∷ js) k = ap (λ (y : Txn). cond (same x y) (Some (g j)) (find x (map g js))) (k j) ∙ find_if g (same x j.txn) j (find x (map g js)) (find x js) (find_map x g js k)
+find_map x g (j ∷ js) k = ap (λ (y : TxnId). cond (same x y) (Some (g j)) (find x (map g js))) (k j) ∙ find_if g (same x j.txn) j (find x (map g js)) (find x js) (find_map x g js k)
 
 find_or : (b : Bool) (j : Job) (r s t : Option Job) → r ≡ or_next s t → cond b (Some j) r ≡ or_next (cond b (Some j) s) t
 find_or true j r s t e = refl
 find_or false j r s t e = e
 
-pub find_append : (x : Txn) (js : List Job) (j : Job) → find x (js ++ j ∷ []) ≡ or_next (find x js) (cond (same x j.txn) (Some j) None)
+pub find_append : (x : TxnId) (js : List Job) (j : Job) → find x (js ++ j ∷ []) ≡ or_next (find x js) (cond (same x j.txn) (Some j) None)
 find_append x [] j = refl
 find_append x (i ∷ js) j = find_or (same x i.txn) i (find x (js ++ j ∷ [])) (find x js) (cond (same x j.txn) (Some j) None) (find_append x js j)
 
@@ -40,7 +46,7 @@ all_map : (P Q : Job → Type 0) (g : Job → Job) (js : List Job) → ((j : Job
 all_map P Q g [] f a = tt
 all_map P Q g (j ∷ js) f a = (f j (inl refl) a.0, all_map P Q g js (λ i n. f i (inr n)) a.1)
 
-pub found_in : (x : Txn) (js : List Job) (j : Job) → find x js ≡ Some j → In j js × (j.txn ≡ x)
+pub found_in : (x : TxnId) (js : List Job) (j : Job) → find x js ≡ Some j → In j js × (j.txn ≡ x)
 found_in x [] j e = cc
 found_in x (i ∷ js) j e =
     ⊎_elim (λ k. let s : Some i ≡ Some j = sym (cond_true _ (Some i) _ k) ∙ e in let t : j ≡ i = cc in (inl t, ap (λ (v : Job). v.txn) t ∙ sym (same_true x i.txn k)))
@@ -58,7 +64,7 @@ or_some : (o t : Option Job) → is_some o ≡ true → is_some (or_next o t) �
 or_some None t e = cc
 or_some (Some j) t e = refl
 
-module _ (x : Txn) (parts : List ℕ) where
+module _ (x : TxnId) (parts : List ℕ) where
   pub once_found : (js : List Job) (j : Job) → Once x parts js → In j js → j.txn ≡ x → find x js ≡ Some j
   once_found [] j o i t = absurd i
   once_found (n ∷ js) j o i t =
@@ -150,36 +156,36 @@ module _ (x : Txn) (parts : List ℕ) where
     if_decision true f j k = k
     if_decision false f j k = refl
 
-    if_fine : (b : Bool) (y : Txn) (f : Job → Job) (j : Job) → same y j.txn ≡ b → (f j).txn ≡ j.txn → (y ≡ x → OfX x parts h e j → OfX x parts h e (f j)) → JobFine x parts h e j → JobFine x parts h e (cond b (f j) j)
+    if_fine : (b : Bool) (y : TxnId) (f : Job → Job) (j : Job) → same y j.txn ≡ b → (f j).txn ≡ j.txn → (y ≡ x → OfX x parts h e j → OfX x parts h e (f j)) → JobFine x parts h e j → JobFine x parts h e (cond b (f j) j)
     if_fine true y f j s k m i = λ t. let u : j.txn ≡ x = sym k ∙ t in m (same_true y j.txn s ∙ u) (i u)
     if_fine false y f j s k m i = i
 
-    pub on_job_fine : (begun : ℕ) (js : List Job) (y : Txn) (f : Job → Job) → JobsFine x parts h e begun js → ((j : Job) → (f j).txn ≡ j.txn) → ((j : Job) → (f j).decision ≡ j.decision) → ((j : Job) → In j js → y ≡ x → OfX x parts h e j → OfX x parts h e (f j)) → JobsFine x parts h e begun (on_job y f js)
+    pub on_job_fine : (begun : ℕ) (js : List Job) (y : TxnId) (f : Job → Job) → JobsFine x parts h e begun js → ((j : Job) → (f j).txn ≡ j.txn) → ((j : Job) → (f j).decision ≡ j.decision) → ((j : Job) → In j js → y ≡ x → OfX x parts h e j → OfX x parts h e (f j)) → JobsFine x parts h e begun (on_job y f js)
     on_job_fine begun js y f i k d m =
         jobs_map h e begun js (λ j. cond (same y j.txn) (f j) j) i (λ j. if_txn (same y j.txn) f j (k j)) (λ j. if_decision (same y j.txn) f j (d j)) (λ j n g. if_fine (same y j.txn) y f j refl (k j) (m j n) g)
 
-    pub answer_fine : (begun : ℕ) (js : List Job) (y : Txn) (p : ℕ) (a : Answer) → JobsFine x parts h e begun js → (y ≡ x → AnswerFine x parts h e p a) → JobsFine x parts h e begun (on_job y (answered_by p a) js)
+    pub answer_fine : (begun : ℕ) (js : List Job) (y : TxnId) (p : ℕ) (a : Answer) → JobsFine x parts h e begun js → (y ≡ x → AnswerFine x parts h e p a) → JobsFine x parts h e begun (on_job y (answered_by p a) js)
     answer_fine begun js y p a i f = on_job_fine begun js y (answered_by p a) i (λ _. refl) (λ _. refl) (λ j _ t o. answered_of p a j (f t) o)
 
-    aborted_answer : (p : ℕ) → e ≡ x.epoch → AnswerFine x parts h e p (seen e Aborted)
+    aborted_answer : (p : ℕ) → e ≡ x.epoch → AnswerFine x parts h e p (answer e Aborted)
     aborted_answer p i = record { above = λ l. absurd (omega arith); prepared = λ k. cc; own = λ _ k. cc; ended = λ l. absurd (omega arith) }
 
-    if_settled : (begun p : ℕ) (y : Txn) (d : Decision) (js : List Job) (j : Job) (b : Bool) → JobsFine x parts h e begun js → In j js → same y j.txn ≡ b → (y ≡ x → h.core.decided e ≡ Some d) → (y ≡ x → (h.core.at p).state ≡ done d) → JobFine x parts h e j → JobFine x parts h e (cond b (settled_at p j) j)
+    if_settled : (begun p : ℕ) (y : TxnId) (d : Decision) (js : List Job) (j : Job) (b : Bool) → JobsFine x parts h e begun js → In j js → same y j.txn ≡ b → (y ≡ x → h.core.decided e ≡ Some d) → (y ≡ x → (h.core.at p).state ≡ done d) → JobFine x parts h e j → JobFine x parts h e (cond b (settled_at p j) j)
     if_settled begun p y d js j true i n s k m f = λ t. let u : y ≡ x = same_true y j.txn s ∙ t in settled_of p j d (job_decision begun js j d i n t (k u)) (m u) (f t)
     if_settled begun p y d js j false i n s k m f = f
 
-    settle_fine : (begun p : ℕ) (y : Txn) (d : Decision) (js : List Job) → JobsFine x parts h e begun js → (y ≡ x → h.core.decided e ≡ Some d) → (y ≡ x → (h.core.at p).state ≡ done d) → JobsFine x parts h e begun (on_job y (settled_at p) js)
+    settle_fine : (begun p : ℕ) (y : TxnId) (d : Decision) (js : List Job) → JobsFine x parts h e begun js → (y ≡ x → h.core.decided e ≡ Some d) → (y ≡ x → (h.core.at p).state ≡ done d) → JobsFine x parts h e begun (on_job y (settled_at p) js)
     settle_fine begun p y d js i k m =
         jobs_map h e begun js (λ j. cond (same y j.txn) (settled_at p j) j) i (λ j. if_txn (same y j.txn) (settled_at p) j refl) (λ j. if_decision (same y j.txn) (settled_at p) j refl) (λ j n f. if_settled begun p y d js j (same y j.txn) i n refl k m f)
 
     -- the response to a message of the life e to p
     pub by_code_fine : (begun p : ℕ) (b : Body) (good : Bool) (js : List Job) → JobsFine x parts h e begun js → Means x parts h e p b → (good ≡ true → b ≡ Eot x → Told h.core.notes (note e p Prepared)) × (good ≡ true → b ≡ Trcomp x → (h.core.at p).state ≡ Completed) × (good ≡ true → b ≡ Abt x → (h.core.at p).state ≡ Aborted) → JobsFine x parts h e begun (by_code e p b good js)
     by_code_fine begun p (Sot y ps) true js i m t = on_job_fine begun js y (went_on p) i (λ _. refl) (λ _. refl) (λ j _ _ o. went_of p j o)
-    by_code_fine begun p (Sot y ps) false js i m t = answer_fine begun js y p (seen e Aborted) i (λ u. aborted_answer p (m u).0)
+    by_code_fine begun p (Sot y ps) false js i m t = answer_fine begun js y p (answer e Aborted) i (λ u. aborted_answer p (m u).0)
     by_code_fine begun p (Mot y) true js i m t = on_job_fine begun js y (went_on p) i (λ _. refl) (λ _. refl) (λ j _ _ o. went_of p j o)
-    by_code_fine begun p (Mot y) false js i m t = answer_fine begun js y p (seen e Aborted) i (λ u. aborted_answer p (m u))
-    by_code_fine begun p (Eot y) true js i m t = answer_fine begun js y p (seen e Prepared) i (λ u. record { above = λ l. let v : e ≡ x.epoch = m u in absurd (omega arith); prepared = λ _. t.0 refl (ap Eot u); own = λ _ k. cc; ended = λ l. let v : e ≡ x.epoch = m u in absurd (omega arith) })
-    by_code_fine begun p (Eot y) false js i m t = answer_fine begun js y p (seen e Aborted) i (λ u. aborted_answer p (m u))
+    by_code_fine begun p (Mot y) false js i m t = answer_fine begun js y p (answer e Aborted) i (λ u. aborted_answer p (m u))
+    by_code_fine begun p (Eot y) true js i m t = answer_fine begun js y p (answer e Prepared) i (λ u. record { above = λ l. let v : e ≡ x.epoch = m u in absurd (omega arith); prepared = λ _. t.0 refl (ap Eot u); own = λ _ k. cc; ended = λ l. let v : e ≡ x.epoch = m u in absurd (omega arith) })
+    by_code_fine begun p (Eot y) false js i m t = answer_fine begun js y p (answer e Aborted) i (λ u. aborted_answer p (m u))
     by_code_fine begun p (Trcomp y) true js i m t = settle_fine begun p y Complete js i (λ u. (m u).0) (λ u. t.1 refl (ap Trcomp u))
     by_code_fine begun p (Trcomp y) false js i m t = on_job_fine begun js y (stuck_at p) i (λ _. refl) (λ _. refl) (λ j _ _ o. stuck_of p j o)
     by_code_fine begun p (Abt y) true js i m t = settle_fine begun p y Abort js i (λ u. (m u).0) (λ u. t.2 refl (ap Abt u))
@@ -188,6 +194,7 @@ module _ (x : Txn) (parts : List ℕ) where
     by_code_fine begun p Ask good js i m t = i
     by_code_fine begun p (Ask_record y) good js i m t = i
     by_code_fine begun p Plain good js i m t = i
+    by_code_fine begun p Malformed good js i m t = i
 
     -- a job that was not there
     recover : (begun : ℕ) (n : Entry) (js : List Job) → HeldFine x parts h e n → find n.txn js ≡ None → JobsFine x parts h e begun js → JobsFine x parts h e begun (js ++ recovered n ∷ [])

@@ -1,6 +1,12 @@
 -- What every move keeps.
 use Rattle.std.proofs.Common.{◌≡◌, ◌≢◌, ℕ, zero, suc, ◌<◌, ◌≤◌, ◌==◌, Bool, true, false, cond, ◌&&◌, ◌||◌, List, [], ◌∷◌, slice_get, Option, Some, None, is_none, nat_lt, ◌⊎◌, inl, inr, ⊎_elim, refl, sym, ap, ◌∙◌, subst, arith, eqb-true, eq-eqb}
-use Rattle.fc_protocol.specs.Core.{State, Absent, Started, Prepared, Completed, Aborted, Decision, Complete, Abort, Note, Element, Core, Move, Raise, Open, Fail, Prepare, Tell, Decide, Give_up, Commit, Settle, start, happens, run, decides_by, commits_by, settles_by, among, put, changed, decides, to, raised, settled, answers, picked, fits, with_first, decide, any, every, is_absent, is_started, is_prepared, is_completed, is_aborted}
+use Rattle.fc_protocol.specs.Collections.{among, put}
+use Rattle.fc_protocol.specs.Core.{Note, Element, Core, Move, Raise, Open, Fail, Prepare, Tell, Decide, Give_up, Commit, Settle, start, moved, moves, decides_by, commits_by, settles_by, changed, decides, to, raised, settled, answers, picked, fits}
+use Rattle.fc_protocol.specs.Decide.{with_first, decision_by, any, every, is_absent, is_started, is_prepared, is_completed, is_aborted}
+use Rattle.fc_protocol.specs.declared.states.Decision.{Decision}
+use Rattle.fc_protocol.specs.declared.states.Decision.TheVariants.{Complete, Abort}
+use Rattle.fc_protocol.specs.declared.states.Seen.{Seen}
+use Rattle.fc_protocol.specs.declared.states.Seen.TheVariants.{Absent, Started, Prepared, Completed, Aborted}
 use Rattle.fc_protocol.proofs.Puts.{was_absent, was_started, was_none, both_first, both_second, put_cases, put_keep, put_two, settled_absent, settled_started, settled_aborted, settled_completed, settled_done, settled_prepared, abort_never, abort_unprepared, raised_started, raised_absent, raised_completed, raised_aborted, raised_prepared, not_early, put_here, not_true, not_none}
 
 module _ (own : ℕ) (parts : List ℕ) where
@@ -8,7 +14,7 @@ module _ (own : ℕ) (parts : List ℕ) where
   abbrev Doomed : (ℕ → Bool) → Type 0
   Doomed dead = (r : ℕ) × (among r parts ≡ true) × (dead r ≡ true)
 
-  abbrev Says : ℕ → Element → Bool → ℕ → State → Type 0
+  abbrev Says : ℕ → Element → Bool → ℕ → Seen → Type 0
   Says p x k life Absent = own < life → among p parts ≡ true → k ≡ true
   Says p x k life Started = life ≤ own
   Says p x k life Prepared = (x.prepared ≡ true) × (own < life → k ≡ false)
@@ -62,7 +68,7 @@ module _ (own : ℕ) (parts : List ℕ) where
       }
 
   -- what a note says stays true
-  says_on : (p : ℕ) (x y : Element) (k m : Bool) (life : ℕ) (s : State) → (x.state ≡ Completed → y.state ≡ Completed) → (x.state ≡ Aborted → y.state ≡ Aborted) → (x.prepared ≡ true → y.prepared ≡ true) → (k ≡ true → m ≡ true)
+  says_on : (p : ℕ) (x y : Element) (k m : Bool) (life : ℕ) (s : Seen) → (x.state ≡ Completed → y.state ≡ Completed) → (x.state ≡ Aborted → y.state ≡ Aborted) → (x.prepared ≡ true → y.prepared ≡ true) → (k ≡ true → m ≡ true)
       → (x.prepared ≡ true → own < life → k ≡ false → m ≡ false) → Says p x k life s → Says p y m life s
   says_on p x y k m life Absent a b c d e h = λ l i. d (h l i)
   says_on p x y k m life Started a b c d e h = h
@@ -73,7 +79,7 @@ module _ (own : ℕ) (parts : List ℕ) where
   abbrev Good : Core → Type 0
   Good c = (dead : ℕ → Bool) × Inv c dead
 
-  differ : {P : Type 0} (a b : State) → a ≡ b → (a ≡ b → ⊥) → P
+  differ : {P : Type 0} (a b : Seen) → a ≡ b → (a ≡ b → ⊥) → P
   differ a b e h = absurd (h e)
 
   doomed_now : (dead : ℕ → Bool) (p : ℕ) → among p parts ≡ true → Doomed (put dead p true)
@@ -228,7 +234,7 @@ module _ (own : ℕ) (parts : List ℕ) where
       })
 
   -- an element tells its state
-  says_now : (c : Core) (dead : ℕ → Bool) (p : ℕ) (s : State) → Fine c.decided c.notes (Doomed dead) p (c.at p) (dead p) → (c.at p).state ≡ s → Says p (c.at p) (dead p) (c.at p).epoch s
+  says_now : (c : Core) (dead : ℕ → Bool) (p : ℕ) (s : Seen) → Fine c.decided c.notes (Doomed dead) p (c.at p) (dead p) → (c.at p).state ≡ s → Says p (c.at p) (dead p) (c.at p).epoch s
   says_now c dead p Absent f e = f.absent e
   says_now c dead p Started f e = let here : (c.at p).epoch ≡ own = (f.started e).0 in omega arith
   says_now c dead p Prepared f e = (f.ready e, λ _. not_true (dead p) (λ k. (f.gone k).2 e))
@@ -296,34 +302,34 @@ module _ (own : ℕ) (parts : List ℕ) where
       }
 
   -- the notes that answers were picked from
-  abbrev Told : List Note → ℕ → List ℕ → List State → Type 0
+  abbrev Told : List Note → ℕ → List ℕ → List Seen → Type 0
   Told notes life [] [] = Unit {0}
   Told notes life [] (s ∷ ss) = ⊥
   Told notes life (p ∷ ps) [] = ⊥
   Told notes life (p ∷ ps) (s ∷ ss) = (w : ℕ) × (n : Note) × (slice_get notes w ≡ Some n) × (n.life ≡ life) × (n.element ≡ p) × (n.state ≡ s) × Told notes life ps ss
 
-  told_first : (notes : List Note) (life p w : ℕ) (ps : List ℕ) (n : Note) (rest : Option (List State)) (ss : List State) → slice_get notes w ≡ Some n → n.life ≡ life → n.element ≡ p → ((ts : List State) → rest ≡ Some ts → Told notes life ps ts)
+  told_first : (notes : List Note) (life p w : ℕ) (ps : List ℕ) (n : Note) (rest : Option (List Seen)) (ss : List Seen) → slice_get notes w ≡ Some n → n.life ≡ life → n.element ≡ p → ((ts : List Seen) → rest ≡ Some ts → Told notes life ps ts)
       → with_first n.state rest ≡ Some ss → Told notes life (p ∷ ps) ss
   told_first notes life p w ps n None ss e l m h k = cc
   told_first notes life p w ps n (Some ts) ss e l m h k = subst (Told notes life (p ∷ ps)) (same_some (n.state ∷ ts) ss k) (w, n, e, l, m, refl, h ts refl)
 
-  told_if : (notes : List Note) (life p w : ℕ) (ps : List ℕ) (n : Note) (rest : Option (List State)) (ss : List State) (b : Bool) → fits life p n ≡ b → slice_get notes w ≡ Some n → ((ts : List State) → rest ≡ Some ts → Told notes life ps ts)
+  told_if : (notes : List Note) (life p w : ℕ) (ps : List ℕ) (n : Note) (rest : Option (List Seen)) (ss : List Seen) (b : Bool) → fits life p n ≡ b → slice_get notes w ≡ Some n → ((ts : List Seen) → rest ≡ Some ts → Told notes life ps ts)
       → cond b (with_first n.state rest) None ≡ Some ss → Told notes life (p ∷ ps) ss
   told_if notes life p w ps n rest ss true f e h k = told_first notes life p w ps n rest ss e (eqb-true _ _ (both_first (n.life == life) (n.element == p) f)) (eqb-true _ _ (both_second (n.life == life) (n.element == p) f)) h k
   told_if notes life p w ps n rest ss false f e h k = cc
 
-  told_picked : (notes : List Note) (life p w : ℕ) (ps : List ℕ) (o : Option Note) (rest : Option (List State)) (ss : List State) → slice_get notes w ≡ o → ((ts : List State) → rest ≡ Some ts → Told notes life ps ts) → picked life p o rest ≡ Some ss → Told notes life (p ∷ ps) ss
+  told_picked : (notes : List Note) (life p w : ℕ) (ps : List ℕ) (o : Option Note) (rest : Option (List Seen)) (ss : List Seen) → slice_get notes w ≡ o → ((ts : List Seen) → rest ≡ Some ts → Told notes life ps ts) → picked life p o rest ≡ Some ss → Told notes life (p ∷ ps) ss
   told_picked notes life p w ps None rest ss e h k = cc
   told_picked notes life p w ps (Some n) rest ss e h k = told_if notes life p w ps n rest ss (fits life p n) refl e h k
 
-  answers_told : (notes : List Note) (life : ℕ) (ps ws : List ℕ) (ss : List State) → answers life notes ps ws ≡ Some ss → Told notes life ps ss
+  answers_told : (notes : List Note) (life : ℕ) (ps ws : List ℕ) (ss : List Seen) → answers life notes ps ws ≡ Some ss → Told notes life ps ss
   answers_told notes life [] [] [] e = tt
   answers_told notes life [] [] (s ∷ ss) e = cc
   answers_told notes life [] (w ∷ ws) ss e = cc
   answers_told notes life (p ∷ ps) [] ss e = cc
   answers_told notes life (p ∷ ps) (w ∷ ws) ss e = told_picked notes life p w ps (slice_get notes w) (answers life notes ps ws) ss refl (answers_told notes life ps ws) e
 
-  record Picked (notes : List Note) (life q : ℕ) (t : State → Bool) : Type 0 where
+  record Picked (notes : List Note) (life q : ℕ) (t : Seen → Bool) : Type 0 where
     which : ℕ
     note : Note
     found : slice_get notes which ≡ Some note
@@ -345,7 +351,7 @@ module _ (own : ℕ) (parts : List ℕ) where
   more_among : (q p : ℕ) (ps : List ℕ) → among q ps ≡ true → among q (p ∷ ps) ≡ true
   more_among q p ps h = or_true (q == p) _ h
 
-  any_note : (notes : List Note) (life : ℕ) (t : State → Bool) (ps : List ℕ) (ss : List State) → Told notes life ps ss → any t ss ≡ true → (q : ℕ) × (among q ps ≡ true) × Picked notes life q t
+  any_note : (notes : List Note) (life : ℕ) (t : Seen → Bool) (ps : List ℕ) (ss : List Seen) → Told notes life ps ss → any t ss ≡ true → (q : ℕ) × (among q ps ≡ true) × Picked notes life q t
   any_note notes life t [] [] h e = cc
   any_note notes life t [] (s ∷ ss) h e = absurd h
   any_note notes life t (p ∷ ps) [] h e = absurd h
@@ -353,7 +359,7 @@ module _ (own : ℕ) (parts : List ℕ) where
       ⊎_elim (λ k. (p, self_among p ps, record { which = h.0; note = h.1; found = h.2; of_life = h.3; of_element = h.4; test = ap t h.5 ∙ k }))
       (λ k. let r = any_note notes life t ps ss h.6 k in (r.0, more_among r.0 p ps r.1, r.2)) (either (t s) (any t ss) e)
 
-  every_note : (notes : List Note) (life : ℕ) (t : State → Bool) (ps : List ℕ) (ss : List State) → Told notes life ps ss → every t ss ≡ true → (q : ℕ) → among q ps ≡ true → Picked notes life q t
+  every_note : (notes : List Note) (life : ℕ) (t : Seen → Bool) (ps : List ℕ) (ss : List Seen) → Told notes life ps ss → every t ss ≡ true → (q : ℕ) → among q ps ≡ true → Picked notes life q t
   every_note notes life t [] [] h e q m = cc
   every_note notes life t [] (s ∷ ss) h e q m = absurd h
   every_note notes life t (p ∷ ps) [] h e q m = absurd h
@@ -361,7 +367,7 @@ module _ (own : ℕ) (parts : List ℕ) where
       ⊎_elim (λ k. record { which = h.0; note = h.1; found = h.2; of_life = h.3; of_element = h.4 ∙ sym (eqb-true q p k); test = ap t h.5 ∙ both_first (t s) (every t ss) e })
       (every_note notes life t ps ss h.6 (both_second (t s) (every t ss) e) q) (either (q == p) (among q ps) m)
 
-  abbrev bad : State → Bool
+  abbrev bad : Seen → Bool
   bad Absent = true
   bad Started = true
   bad Aborted = true
@@ -380,7 +386,7 @@ module _ (own : ℕ) (parts : List ℕ) where
   pick_abort false false true h = cc
   pick_abort false false false h = (refl, inr refl)
 
-  aborted_bad : (ss : List State) → any is_aborted ss ≡ true → any bad ss ≡ true
+  aborted_bad : (ss : List Seen) → any is_aborted ss ≡ true → any bad ss ≡ true
   aborted_bad [] h = cc
   aborted_bad (Absent ∷ ss) h = refl
   aborted_bad (Started ∷ ss) h = refl
@@ -388,7 +394,7 @@ module _ (own : ℕ) (parts : List ℕ) where
   aborted_bad (Completed ∷ ss) h = aborted_bad ss h
   aborted_bad (Aborted ∷ ss) h = refl
 
-  unready_bad : (ss : List State) → any is_completed ss ≡ false → every is_prepared ss ≡ false → any bad ss ≡ true
+  unready_bad : (ss : List Seen) → any is_completed ss ≡ false → every is_prepared ss ≡ false → any bad ss ≡ true
   unready_bad [] c h = cc
   unready_bad (Absent ∷ ss) c h = refl
   unready_bad (Started ∷ ss) c h = refl
@@ -396,43 +402,43 @@ module _ (own : ℕ) (parts : List ℕ) where
   unready_bad (Completed ∷ ss) c h = cc
   unready_bad (Aborted ∷ ss) c h = refl
 
-  decide_bad : (ss : List State) → decide ss ≡ Abort → any bad ss ≡ true
+  decide_bad : (ss : List Seen) → decision_by ss ≡ Abort → any bad ss ≡ true
   decide_bad ss h = let p = pick_abort (any is_completed ss) (any is_aborted ss) (every is_prepared ss) h in ⊎_elim (aborted_bad ss) (unready_bad ss p.0) p.1
 
-  every_true : (ss : List State) → every (λ _. true) ss ≡ true
+  every_true : (ss : List Seen) → every (λ _. true) ss ≡ true
   every_true [] = refl
   every_true (s ∷ ss) = every_true ss
 
   -- what a bad note shows
-  bad_doomed : (c : Core) (dead : ℕ → Bool) (i : Inv c dead) (e q : ℕ) (s : State) → own < e → among q parts ≡ true → bad s ≡ true → Says q (c.at q) (dead q) e s → Doomed dead
+  bad_doomed : (c : Core) (dead : ℕ → Bool) (i : Inv c dead) (e q : ℕ) (s : Seen) → own < e → among q parts ≡ true → bad s ≡ true → Says q (c.at q) (dead q) e s → Doomed dead
   bad_doomed c dead i e q Absent l m b h = (q, m, h l m)
   bad_doomed c dead i e q Started l m b h = absurd (omega arith)
   bad_doomed c dead i e q Prepared l m b h = cc
   bad_doomed c dead i e q Completed l m b h = cc
   bad_doomed c dead i e q Aborted l m b h = (i.each q).aborted h
 
-  says_completed : (q life : ℕ) (x : Element) (k : Bool) (s : State) → is_completed s ≡ true → Says q x k life s → x.state ≡ Completed
+  says_completed : (q life : ℕ) (x : Element) (k : Bool) (s : Seen) → is_completed s ≡ true → Says q x k life s → x.state ≡ Completed
   says_completed q life x k Absent b h = cc
   says_completed q life x k Started b h = cc
   says_completed q life x k Prepared b h = cc
   says_completed q life x k Completed b h = h
   says_completed q life x k Aborted b h = cc
 
-  says_prepared : (q life : ℕ) (x : Element) (k : Bool) (s : State) → is_prepared s ≡ true → Says q x k life s → (x.prepared ≡ true) × (own < life → k ≡ false)
+  says_prepared : (q life : ℕ) (x : Element) (k : Bool) (s : Seen) → is_prepared s ≡ true → Says q x k life s → (x.prepared ≡ true) × (own < life → k ≡ false)
   says_prepared q life x k Absent b h = cc
   says_prepared q life x k Started b h = cc
   says_prepared q life x k Prepared b h = h
   says_prepared q life x k Completed b h = cc
   says_prepared q life x k Aborted b h = cc
 
-  told_says : (c : Core) (dead : ℕ → Bool) (i : Inv c dead) (e q : ℕ) (t : State → Bool) (k : Picked c.notes e q t) → (e ≤ (c.at q).epoch) × Says q (c.at q) (dead q) e k.note.state
+  told_says : (c : Core) (dead : ℕ → Bool) (i : Inv c dead) (e q : ℕ) (t : Seen → Bool) (k : Picked c.notes e q t) → (e ≤ (c.at q).epoch) × Says q (c.at q) (dead q) e k.note.state
   told_says c dead i e q t k = subst (λ l. (l ≤ (c.at q).epoch) × Says q (c.at q) (dead q) l k.note.state) k.of_life ((i.each q).notes k.which k.note k.found k.of_element)
 
-  by_answers : (c : Core) (dead : ℕ → Bool) (e : ℕ) (o : Option (List State)) → Inv c dead → own < e → c.decided e ≡ None → ((ss : List State) → o ≡ Some ss → Told c.notes e parts ss) → Inv (decides_by c e o) dead
+  by_answers : (c : Core) (dead : ℕ → Bool) (e : ℕ) (o : Option (List Seen)) → Inv c dead → own < e → c.decided e ≡ None → ((ss : List Seen) → o ≡ Some ss → Told c.notes e parts ss) → Inv (decides_by c e o) dead
   by_answers c dead e None i above none told = i
   by_answers c dead e (Some ss) i above none told =
       let t = told ss refl in
-      decide_keeps c dead e (decide ss) i none (omega arith)
+      decide_keeps c dead e (decision_by ss) i none (omega arith)
       (λ q _ m. (told_says c dead i e q (λ _. true) (every_note c.notes e (λ _. true) parts ss t (every_true ss) q m)).0)
       (λ q h m. ⊎_elim (λ k.
       let r = any_note c.notes e is_completed parts ss t k in
@@ -450,7 +456,7 @@ module _ (own : ℕ) (parts : List ℕ) where
   give_up_keeps : (c : Core) (dead : ℕ → Bool) → Inv c dead → c.decided own ≡ None → Inv (decides c own Abort) dead
   give_up_keeps c dead i none = decide_keeps c dead own Abort i none (omega arith) (λ q l m. absurd (omega arith)) (λ q h m. cc) (λ _ l. absurd (omega arith))
 
-  commit_if : (c : Core) (dead : ℕ → Bool) (ss : List State) (b : Bool) → Inv c dead → c.decided own ≡ None → Told c.notes own parts ss → every is_prepared ss ≡ b → Inv (cond b (decides c own Complete) c) dead
+  commit_if : (c : Core) (dead : ℕ → Bool) (ss : List Seen) (b : Bool) → Inv c dead → c.decided own ≡ None → Told c.notes own parts ss → every is_prepared ss ≡ b → Inv (cond b (decides c own Complete) c) dead
   commit_if c dead ss false i none t e = i
   commit_if c dead ss true i none t e =
       decide_keeps c dead own Complete i none (omega arith) (λ q l m. absurd (omega arith))
@@ -460,7 +466,7 @@ module _ (own : ℕ) (parts : List ℕ) where
       (s.0, not_true (dead q) (λ k. not_none (c.decided own) Abort none ((i.each q).undone k s.0))))
       (λ h l. absurd (omega arith))
 
-  by_commit : (c : Core) (dead : ℕ → Bool) (o : Option (List State)) → Inv c dead → c.decided own ≡ None → ((ss : List State) → o ≡ Some ss → Told c.notes own parts ss) → Inv (commits_by c own o) dead
+  by_commit : (c : Core) (dead : ℕ → Bool) (o : Option (List Seen)) → Inv c dead → c.decided own ≡ None → ((ss : List Seen) → o ≡ Some ss → Told c.notes own parts ss) → Inv (commits_by c own o) dead
   by_commit c dead None i none told = i
   by_commit c dead (Some ss) i none told = commit_if c dead ss (every is_prepared ss) i none (told ss refl) refl
 
@@ -492,19 +498,19 @@ module _ (own : ℕ) (parts : List ℕ) where
       let low : own ≤ (c.at p).epoch = i.least (c.at p).epoch Abort e in
       ⊎_elim (λ h. (put dead p true, settle_own c dead p i m e h)) (λ h. (put dead p (dead p), settle_plain c dead p Abort i e (λ _. i.refused (c.at p).epoch e h))) (at_or_above own (c.at p).epoch low)
 
-  differs_completed : {s : State} → s ≡ Absent → s ≡ Completed → ⊥
+  differs_completed : {s : Seen} → s ≡ Absent → s ≡ Completed → ⊥
   differs_completed e h = cc
 
-  differs_aborted : {s : State} → s ≡ Absent → s ≡ Aborted → ⊥
+  differs_aborted : {s : Seen} → s ≡ Absent → s ≡ Aborted → ⊥
   differs_aborted e h = cc
 
-  differs_started : {s : State} → s ≡ Absent → s ≡ Started → ⊥
+  differs_started : {s : Seen} → s ≡ Absent → s ≡ Started → ⊥
   differs_started e h = cc
 
-  started_completed : {s : State} → s ≡ Started → s ≡ Completed → ⊥
+  started_completed : {s : Seen} → s ≡ Started → s ≡ Completed → ⊥
   started_completed e h = cc
 
-  started_aborted : {s : State} → s ≡ Started → s ≡ Aborted → ⊥
+  started_aborted : {s : Seen} → s ≡ Started → s ≡ Aborted → ⊥
   started_aborted e h = cc
 
   raises : (c : Core) (dead : ℕ → Bool) (p e : ℕ) → Inv c dead → (c.at p).epoch < e → Good (changed c p (record { epoch = e; state = raised (c.at p).state; prepared = (c.at p).prepared }))
@@ -518,7 +524,7 @@ module _ (own : ℕ) (parts : List ℕ) where
       (λ k. (put dead p (dead p), raise_plain c dead p e i less k.1 (λ h. absurd (k.0 h)))))
       (not_early (c.at p).state)
 
-  happens_keeps : (c : Core) (m : Move) → Good c → Good (happens own parts c m)
+  happens_keeps : (c : Core) (m : Move) → Good c → Good (moved own parts c m)
   happens_keeps c (Raise p e) g = guard (nat_lt (c.at p).epoch e) _ c (λ t. raises c g.0 p e g.1 (lt_of _ _ t)) g
   happens_keeps c (Open p) g =
       guard (among p parts && ((c.at p).epoch == own && is_absent (c.at p).state)) _ c (λ t.
@@ -556,12 +562,20 @@ module _ (own : ℕ) (parts : List ℕ) where
   start_good : Good start
   start_good = (λ _. false, record { least = λ e d h. cc; refused = λ e h. cc; each = start_fine })
 
-  run_good : (ms : List Move) (c : Core) → Good c → Good (run own parts ms c)
+  run_good : (ms : List Move) (c : Core) → Good c → Good (moves own parts ms c)
   run_good [] c g = g
-  run_good (m ∷ ms) c g = run_good ms (happens own parts c m) (happens_keeps c m g)
+  run_good (m ∷ ms) c g = run_good ms (moved own parts c m) (happens_keeps c m g)
 
-  pub agree : (ms : List Move) (p q : ℕ) → ((run own parts ms start).at p).state ≡ Completed → ((run own parts ms start).at q).state ≡ Aborted → ⊥
-  agree ms p q h k = let g = run_good ms start start_good in agrees (run own parts ms start) g.0 g.1 p q h k
+  pub agree : (ms : List Move) (p q : ℕ) → ((moves own parts ms start).at p).state ≡ Completed → ((moves own parts ms start).at q).state ≡ Aborted → ⊥
+  agree ms p q h k = let g = run_good ms start start_good in agrees (moves own parts ms start) g.0 g.1 p q h k
 
-  pub ready : (ms : List Move) (p q : ℕ) → ((run own parts ms start).at p).state ≡ Completed → among q parts ≡ true → ((run own parts ms start).at q).prepared ≡ true
-  ready ms p q h m = let g = run_good ms start start_good in had_prepared (run own parts ms start) g.0 g.1 p q h m
+  pub ready : (ms : List Move) (p q : ℕ) → ((moves own parts ms start).at p).state ≡ Completed → among q parts ≡ true → ((moves own parts ms start).at q).prepared ≡ true
+  ready ms p q h m = let g = run_good ms start start_good in had_prepared (moves own parts ms start) g.0 g.1 p q h m
+
+  -- a life above the transaction's own decides only once all participants have reached it
+  pub reached : (ms : List Move) (p e : ℕ) (d : Decision) → (moves own parts ms start).decided e ≡ Some d → own < e → among p parts ≡ true → e ≤ ((moves own parts ms start).at p).epoch
+  reached ms p e d h l m = let g = run_good ms start start_good in (g.1.each p).reach e d h l m
+
+  -- to complete is decided only once all participants have prepared
+  pub all_had_prepared : (ms : List Move) (p e : ℕ) → (moves own parts ms start).decided e ≡ Some Complete → among p parts ≡ true → ((moves own parts ms start).at p).prepared ≡ true
+  all_had_prepared ms p e h m = let g = run_good ms start start_good in (g.1.each p).prepared_all e h m

@@ -14,5 +14,5 @@ pub mod Deciding
 pub mod Sending
 pub mod Binding
 pub mod Numbers
-pub mod Fenced
-pub mod Try
+pub mod Stale
+pub mod Lasting

@@ -1,33 +1,39 @@
 -- The moves of the core, by what they need, and chains of moves at one element.
 use Rattle.std.proofs.Common.{◌≡◌, ℕ, zero, suc, ◌<◌, ◌==◌, Bool, true, false, List, [], ◌∷◌, ◌++◌, slice_get, Some, nat_lt, refl, sym, ap, ◌∙◌, subst, arith, eq-eqb}
-use Rattle.fc_protocol.specs.Core.{State, Absent, Started, Prepared, Completed, Aborted, Decision, Complete, Abort, Note, Element, Core, Move, Raise, Open, Fail, Prepare, Tell, Settle, start, happens, run, settles_by, among, put, changed, to, raised, settled, is_absent, is_started}
+use Rattle.fc_protocol.specs.Collections.{among, put}
+use Rattle.fc_protocol.specs.Core.{Note, Element, Core, Move, Raise, Open, Fail, Prepare, Tell, Settle, start, moved, moves, settles_by, changed, to, raised, settled}
+use Rattle.fc_protocol.specs.Decide.{is_absent, is_started}
+use Rattle.fc_protocol.specs.declared.states.Decision.{Decision}
+use Rattle.fc_protocol.specs.declared.states.Decision.TheVariants.{Complete, Abort}
+use Rattle.fc_protocol.specs.declared.states.Seen.{Seen}
+use Rattle.fc_protocol.specs.declared.states.Seen.TheVariants.{Absent, Started, Prepared, Completed, Aborted}
 use Rattle.fc_protocol.proofs.Puts.{put_keep, put_here}
 use Rattle.fc_protocol.proofs.Basics.{cond_true, and_true, put_over, put_rest}
 
 abbrev pub Told : List Note → Note → Type 0
 Told notes n = (w : ℕ) × (slice_get notes w ≡ Some n)
 
-abbrev pub note : ℕ → ℕ → State → Note
+abbrev pub note : ℕ → ℕ → Seen → Note
 note e p s = record { life = e; element = p; state = s }
 
-abbrev pub over : State → Bool
+abbrev pub over : Seen → Bool
 over Absent = false
 over Started = false
 over Prepared = false
 over Completed = true
 over Aborted = true
 
-absurd_over : {P : Type 0} (s t : State) → over s ≡ true → t ≡ s → over t ≡ false → P
+absurd_over : {P : Type 0} (s t : Seen) → over s ≡ true → t ≡ s → over t ≡ false → P
 absurd_over s t o e f = let u : true ≡ false = sym o ∙ ap over (sym e) ∙ f in cc
 
-pub raised_over : (s : State) → over s ≡ true → raised s ≡ s
+pub raised_over : (s : Seen) → over s ≡ true → raised s ≡ s
 raised_over Absent e = cc
 raised_over Started e = cc
 raised_over Prepared e = cc
 raised_over Completed e = refl
 raised_over Aborted e = refl
 
-settled_over : (d : Decision) (s : State) → over s ≡ true → settled d s ≡ s
+pub settled_over : (d : Decision) (s : Seen) → over s ≡ true → settled d s ≡ s
 settled_over d Absent e = cc
 settled_over d Started e = cc
 settled_over d Prepared e = cc
@@ -38,21 +44,21 @@ settled_over Abort Aborted e = refl
 
 module _ (own : ℕ) (parts : List ℕ) where
   abbrev pub Reached : Core → Type 0
-  Reached c = (ms : List Move) × (run own parts ms start ≡ c)
+  Reached c = (ms : List Move) × (moves own parts ms start ≡ c)
 
-  run_snoc : (ms : List Move) (m : Move) (c : Core) → run own parts (ms ++ m ∷ []) c ≡ happens own parts (run own parts ms c) m
+  run_snoc : (ms : List Move) (m : Move) (c : Core) → moves own parts (ms ++ m ∷ []) c ≡ moved own parts (moves own parts ms c) m
   run_snoc [] m c = refl
-  run_snoc (n ∷ ms) m c = run_snoc ms m (happens own parts c n)
+  run_snoc (n ∷ ms) m c = run_snoc ms m (moved own parts c n)
 
-  pub reach_more : (c : Core) (m : Move) → Reached c → Reached (happens own parts c m)
-  reach_more c m r = (r.0 ++ m ∷ [], run_snoc r.0 m start ∙ ap (λ d. happens own parts d m) r.1)
+  pub reach_more : (c : Core) (m : Move) → Reached c → Reached (moved own parts c m)
+  reach_more c m r = (r.0 ++ m ∷ [], run_snoc r.0 m start ∙ ap (λ d. moved own parts d m) r.1)
 
   -- from c to d only element p has changed, by moves
   pub record Turned (c d : Core) (p : ℕ) : Type 0 where
     pub at : (q : ℕ) → d.at q ≡ put c.at p (d.at p) q
     pub decided : (e : ℕ) → d.decided e ≡ c.decided e
     pub told : (n : Note) → Told c.notes n → Told d.notes n
-    pub final : (q : ℕ) (s : State) → over s ≡ true → (c.at q).state ≡ s → (d.at q).state ≡ s
+    pub final : (q : ℕ) (s : Seen) → over s ≡ true → (c.at q).state ≡ s → (d.at q).state ≡ s
     pub reached : Reached c → Reached d
 
   abbrev pub Turns : Core → ℕ → Element → Type 0
@@ -70,7 +76,7 @@ module _ (own : ℕ) (parts : List ℕ) where
     reached = λ r. u.reached (t.reached r);
   }
 
-  by_changed : (c d : Core) (p : ℕ) (y : Element) → ((s : State) → over s ≡ true → (c.at p).state ≡ s → y.state ≡ s) → (Reached c → Reached d) → d ≡ changed c p y → Turns c p y
+  by_changed : (c d : Core) (p : ℕ) (y : Element) → ((s : Seen) → over s ≡ true → (c.at p).state ≡ s → y.state ≡ s) → (Reached c → Reached d) → d ≡ changed c p y → Turns c p y
   by_changed c d p y k r e =
       let here : d.at p ≡ y = ap (λ (f : Core). f.at p) e ∙ put_here c.at p y in (
         d,
@@ -84,8 +90,8 @@ module _ (own : ℕ) (parts : List ℕ) where
         here,
       )
 
-  by_move : (c : Core) (m : Move) (p : ℕ) (y : Element) → ((s : State) → over s ≡ true → (c.at p).state ≡ s → y.state ≡ s) → happens own parts c m ≡ changed c p y → Turns c p y
-  by_move c m p y k e = by_changed c (happens own parts c m) p y k (reach_more c m) e
+  by_move : (c : Core) (m : Move) (p : ℕ) (y : Element) → ((s : Seen) → over s ≡ true → (c.at p).state ≡ s → y.state ≡ s) → moved own parts c m ≡ changed c p y → Turns c p y
+  by_move c m p y k e = by_changed c (moved own parts c m) p y k (reach_more c m) e
 
   pub opens : (c : Core) (p : ℕ) → among p parts ≡ true → (c.at p).epoch ≡ own → (c.at p).state ≡ Absent → Turns c p (to (c.at p) Started)
   opens c p m e s = by_move c (Open p) p _ (λ t o h. absurd_over t (c.at p).state o h (ap over s)) (cond_true _ _ c (and_true (among p parts) _ m (and_true ((c.at p).epoch == own) _ (eq-eqb _ _ e) (ap is_absent s))))
@@ -108,7 +114,7 @@ module _ (own : ℕ) (parts : List ℕ) where
   -- the element tells its state
   pub tells : (c : Core) (p : ℕ) → (d : Core) × Turned c d p × (d.at p ≡ c.at p) × Told d.notes (note (c.at p).epoch p (c.at p).state)
   tells c p = (
-    happens own parts c (Tell p),
+    moved own parts c (Tell p),
     record {
       at = λ q. sym (put_keep c.at p (c.at p) q (c.at q) refl (λ e. ap c.at (sym e)));
       decided = λ _. refl;

@@ -1,14 +1,23 @@
 -- One life makes a transaction, once, with one list of participants.
-use Rattle.std.proofs.Common.{◌≡◌, ℕ, ◌+◌, ◌*◌, ◌<◌, ◌≤◌, ◌&&◌, not, Bool, true, false, cond, nat_lt, List, [], ◌∷◌, ◌++◌, slice_get, Option, Some, None, is_none, inl, inr, ⊎_elim, refl, sym, ap, ◌∙◌, subst, arith}
-use Rattle.fc_protocol.specs.Core.{State, Decision, Complete, start, among}
-use Rattle.fc_protocol.specs.Elements.{Txn, same, Entry, Body, Claim, Sot, Mot, Eot, Trcomp, Abt, Ask, Ask_record, Plain, Luck, Message, Setup, Request, Reply, Holds, Tells, Other_up, Other_down, Sent, Fact, Opened_at, Prepared_at, Settled_at}
-use Rattle.fc_protocol.specs.Masters.{Waiting, Job, Master, new_master, at_put, due, sends_one, sends_all, heard, matches, coded, by_epoch, depose, is_lower, unmatched, held_by, held_told, record_by, record_told, begins, gives_up, decide_all, finish, Speaks}
-use Rattle.fc_protocol.specs.World.{World, Begun, Step, Open, Deliver, Start, Stop, Begin, Give_up, Resend, Murmur, Change, first_world, with_begun, speaks, to_master, delivered, delivers, starts, begin_at, give_up_at, resend_at, change_at, happens, run}
+use Rattle.std.proofs.Common.{◌≡◌, ℕ, ◌+◌, ◌*◌, ◌<◌, ◌≤◌, ◌&&◌, ◌||◌, ◌==◌, eqb-true, not, Bool, true, false, cond, nat_lt, List, [], ◌∷◌, ◌++◌, slice_get, Option, Some, None, is_none, is_some, inl, inr, ⊎_elim, refl, sym, ap, ◌∙◌, subst, arith}
+use Rattle.fc_protocol.specs.Agreement.{Agree, SettleOnce, Ready, OnePlan, Settled, SettledWhole, BegunOnce, SaysOnce, FollowsCore}
+use Rattle.fc_protocol.specs.Collections.{among}
+use Rattle.fc_protocol.specs.Core.{start}
+use Rattle.fc_protocol.specs.ElementMachine.{Circumstance}
+use Rattle.fc_protocol.specs.Jobs.{all_settled, Job}
+use Rattle.fc_protocol.specs.MasterMachine.{Refusal, begin_refusal, plain_refusal, give_up_refusal, unread_told, Waiting, Master, new_master, at_put, due, sends_one, sends_all, heard, matches, coded, by_epoch, depose, is_lower, unmatched, held_by, held_told, record_by, record_told, begins, gives_up, decide_all, finish, Speaks}
+use Rattle.fc_protocol.specs.Messages.{Malformed, Beat, Unread, sent, same, Entry, Body, Claim, Sot, Mot, Eot, Trcomp, Abt, Ask, Ask_record, Plain, Message, Setup, Request, Reply, Holds, Tells, Other_up, Other_down, Sent}
+use Rattle.fc_protocol.specs.Trace.{Fact, Opened_at, Prepared_at, Settled_at}
+use Rattle.fc_protocol.specs.WorldSteps.{Open, Give_up, Network, controller_of, World, Begun, Step, Deliver, Moment, Start, Stop, Begin, Change, Resend, murmurs, says, numbered, may_start, begin_by, give_up_by, change_by, change_at, first_world, with_begun, speaks, to_master, delivered, delivers, starts, begin_at, give_up_at, resend_at, happens, run}
+use Rattle.fc_protocol.specs.declared.ids.TxnId.{TxnId}
+use Rattle.fc_protocol.specs.declared.states.Decision.{Decision}
+use Rattle.fc_protocol.specs.declared.states.Decision.TheVariants.{Complete}
+use Rattle.fc_protocol.specs.declared.states.Seen.{Seen}
 use Rattle.fc_protocol.proofs.Puts.{put_here, both_first, both_second}
 use Rattle.fc_protocol.proofs.Basics.{In, both, cond_true, same_true, same_of, put_rest}
 use Rattle.fc_protocol.proofs.Facts.{Past, Lives, Named}
 use Rattle.fc_protocol.proofs.Hears.{cond_all}
-use Rattle.fc_protocol.proofs.Binding.{same_life, fresh_life, below, not_false, Goes, run_tied, first_tied, agrees, settles_once, readies, opens_alike, settled_there}
+use Rattle.fc_protocol.proofs.Binding.{same_life, fresh_life, may_start_is, Goes, run_tied, first_tied, agrees, settles_once, readies, opens_alike, settled_there, says_apart, follows}
 
 abbrev Alike : Master → Master → Type 0
 Alike m n = (n.epoch ≡ m.epoch) × (n.begun ≡ m.begun)
@@ -27,12 +36,13 @@ held_by_alike m p ns (Eot y) = (refl, refl)
 held_by_alike m p ns (Trcomp y) = (refl, refl)
 held_by_alike m p ns (Abt y) = (refl, refl)
 held_by_alike m p ns Plain = (refl, refl)
+held_by_alike m p ns Malformed = (refl, refl)
 
 held_alike : (m : Master) (p : ℕ) (ns : List Entry) (o : Option Waiting) → Alike m (held_told m p ns o)
 held_alike m p ns None = (refl, refl)
 held_alike m p ns (Some o) = held_by_alike m p ns o.body
 
-record_by_alike : (m : Master) (p e : ℕ) (t : State) (b : Body) → Alike m (record_by m p e t b)
+record_by_alike : (m : Master) (p e : ℕ) (t : Seen) (b : Body) → Alike m (record_by m p e t b)
 record_by_alike m p e t Ask = (refl, refl)
 record_by_alike m p e t (Ask_record y) = (refl, refl)
 record_by_alike m p e t (Claim w) = (refl, refl)
@@ -42,16 +52,23 @@ record_by_alike m p e t (Eot y) = (refl, refl)
 record_by_alike m p e t (Trcomp y) = (refl, refl)
 record_by_alike m p e t (Abt y) = (refl, refl)
 record_by_alike m p e t Plain = (refl, refl)
+record_by_alike m p e t Malformed = (refl, refl)
 
-record_alike : (m : Master) (p e : ℕ) (t : State) (o : Option Waiting) → Alike m (record_told m p e t o)
+record_alike : (m : Master) (p e : ℕ) (t : Seen) (o : Option Waiting) → Alike m (record_told m p e t o)
 record_alike m p e t None = (refl, refl)
 record_alike m p e t (Some o) = record_by_alike m p e t o.body
 
 epoch_alike : (m n : Master) (p e : ℕ) → Alike m n → Alike m (by_epoch m p e n)
 epoch_alike m n p e a = cond_all (Alike m) (nat_lt m.epoch e) (depose m e) _ (λ _. (refl, refl)) (λ _. cond_all (Alike m) (is_lower m p e) (at_put m p (unmatched (m.at p))) n (λ _. (refl, refl)) (λ _. a))
 
+unread_alike : (m : Master) (p : ℕ) (e : Option ℕ) → Alike m (unread_told m p e)
+unread_alike m p None = (refl, refl)
+unread_alike m p (Some e) = epoch_alike m (at_put m p (unmatched (m.at p))) p e (refl, refl)
+
 heard_alike : (m : Master) (p : ℕ) (i : Message) → Alike m (heard m p i)
-heard_alike m p Setup = (refl, refl)
+heard_alike m p Setup = cond_all (Alike m) (among p m.elements) (at_put m p (record (m.at p) { met = true })) m (λ _. (refl, refl)) (λ _. (refl, refl))
+heard_alike m p Beat = (refl, refl)
+heard_alike m p (Unread s e) = cond_all (Alike m) (matches s true (m.at p).waits) (unread_told m p e) m (λ _. unread_alike m p e) (λ _. (refl, refl))
 heard_alike m p (Request s b) = (refl, refl)
 heard_alike m p (Reply s code) = cond_all (Alike m) (matches s false (m.at p).waits) _ m (λ _. coded_alike m p code (m.at p).waits) (λ _. (refl, refl))
 heard_alike m p (Holds s e ns) = cond_all (Alike m) (matches s true (m.at p).waits) _ m (λ _. epoch_alike m _ p e (held_alike m p ns (m.at p).waits)) (λ _. (refl, refl))
@@ -70,8 +87,8 @@ all_alike : (k : ℕ) (es : List ℕ) (m : Master) → Alike m (sends_all k es m
 all_alike k [] m = (refl, refl)
 all_alike k (p ∷ ps) m = let n = (sends_one k m p (due m p)).master in alike_then m n (sends_all k ps n).master (one_alike k m p (due m p)) (all_alike k ps n)
 
-finish_alike : (k : ℕ) (es : List ℕ) (m : Master) → Alike m (finish k es m).master
-finish_alike k es m = all_alike k es (decide_all m)
+finish_alike : (k : ℕ) (m : Master) → Alike m (finish k m).master
+finish_alike k m = all_alike k m.elements (decide_all m)
 
 record Numbered (h : Past) (k : ℕ) (m : Master) : Type 0 where
   life : Lives h k m.epoch
@@ -101,18 +118,20 @@ speaks_ids w k m n r first i e a b = record {
 
 to_master_ids : (w : World) (p k : ℕ) (t : Message) (o : Option Master) → Ids w → w.masters k ≡ o → Ids (to_master w p k t o)
 to_master_ids w p k t None i e = i
-to_master_ids w p k t (Some m) i e = speaks_ids w k m (heard m p t) _ _ i e (heard_alike m p t) (finish_alike k w.elements (heard m p t))
+to_master_ids w p k t (Some m) i e = speaks_ids w k m (heard m p t) _ _ i e (heard_alike m p t) (finish_alike k (heard m p t))
 
-delivered_ids : (w : World) (ok : Luck) (p k : ℕ) (t : Message) → Ids w → Ids (delivered w ok p k t)
+delivered_ids : (w : World) (ok : Circumstance) (p k : ℕ) (t : Message) → Ids w → Ids (delivered w ok p k t)
 delivered_ids w ok p k Setup i = to_master_ids w p k Setup (w.masters k) i refl
 delivered_ids w ok p k (Request s b) i = record { lives = i.lives; owners = i.owners; once = i.once }
 delivered_ids w ok p k (Reply s b) i = to_master_ids w p k (Reply s b) (w.masters k) i refl
 delivered_ids w ok p k (Holds s e b) i = to_master_ids w p k (Holds s e b) (w.masters k) i refl
 delivered_ids w ok p k (Tells s e b) i = to_master_ids w p k (Tells s e b) (w.masters k) i refl
+delivered_ids w ok p k Beat i = to_master_ids w p k Beat (w.masters k) i refl
+delivered_ids w ok p k (Unread s e) i = to_master_ids w p k (Unread s e) (w.masters k) i refl
 delivered_ids w ok p k Other_up i = to_master_ids w p k Other_up (w.masters k) i refl
 delivered_ids w ok p k Other_down i = record { lives = i.lives; owners = i.owners; once = i.once }
 
-delivers_ids : (w : World) (ok : Luck) (o : Option Sent) → Ids w → Ids (delivers w ok o)
+delivers_ids : (w : World) (ok : Circumstance) (o : Option Sent) → Ids w → Ids (delivers w ok o)
 delivers_ids w ok None i = i
 delivers_ids w ok (Some s) i = delivered_ids w ok s.element s.controller s.message i
 
@@ -125,7 +144,7 @@ numbered_on w k r j (Some m) f = record { life = used_on w k r j m.epoch f.life;
 
 start_ids : (w : World) (k r : ℕ) → k < 256 → among r (w.used k) ≡ false → Ids w → Ids (starts w k r)
 start_ids w k r small new i = record {
-  lives = put_rest (LifeNumbered (at_start (starts w k r))) w.masters k (Some (new_master (256 * r + k)))
+  lives = put_rest (LifeNumbered (at_start (starts w k r))) w.masters k (Some (new_master (256 * r + k) w.network.elements))
       (record {
         life = (r, subst (In r) (sym (put_here w.used k (r ∷ w.used k))) (inl refl), refl, small);
         numbers = λ b n e. let v = i.owners b n in absurd (fresh_life w start k r v.0 small new (subst (Lives (at_start w) v.0) e v.1));
@@ -140,48 +159,61 @@ others_on : (w : World) (b : Begun) (k j : ℕ) (o : Option Master) → Lives (a
 others_on w b k j None l n f = tt
 others_on w b k j (Some m) l n f = record { life = f.life; numbers = λ a i e. ⊎_elim (λ u. absurd (n (same_life (at_start w) (at_start w) j k m.epoch f.life (subst (Lives (at_start w) k) (ap (λ (v : Begun). v.txn.epoch) (sym u) ∙ e) l)))) (λ u. f.numbers a u e) i }
 
-begin_ids : (w : World) (k : ℕ) (ps : List ℕ) (changes : ℕ → ℕ) (o : Option Master) → Ids w → w.masters k ≡ o → Ids (begin_at w k ps changes o)
-begin_ids w k ps changes None i e = i
-begin_ids w k ps changes (Some m) i e =
+begin_by_ids : (w : World) (k : ℕ) (ps : List ℕ) (changes : ℕ → ℕ) (m : Master) (r : Option Refusal) → Ids w → w.masters k ≡ Some m → Ids (begin_by w k ps changes m r)
+begin_by_ids w k ps changes m (Some r) i e = i
+begin_by_ids w k ps changes m None i e =
     let b : Begun = record { txn = record { epoch = m.epoch; number = m.begun + 1 }; parts = ps } in
     let n = begins m ps changes in
-    let r = finish k w.elements n in
+    let r = finish k n in
     let f : Numbered (at_start w) k m = subst (LifeNumbered (at_start w) k) e (i.lives k) in
     let g : Numbered (at_start (with_begun w b)) k n = record {
       life = f.life;
       numbers = λ a u v. ⊎_elim (λ s. let t : a.txn.number ≡ m.begun + 1 = ap (λ (z : Begun). z.txn.number) s in omega arith) (λ s. let t : a.txn.number ≤ m.begun = f.numbers a s v in omega arith) u;
     } in
     let clash = λ (a : Begun) (u : In a w.begun) (s : a.txn ≡ b.txn).
-    let low : a.txn.number ≤ m.begun = f.numbers a u (ap (λ (v : Txn). v.epoch) s) in
-    let now : a.txn.number ≡ m.begun + 1 = ap (λ (v : Txn). v.number) s in
+    let low : a.txn.number ≤ m.begun = f.numbers a u (ap (λ (v : TxnId). v.epoch) s) in
+    let now : a.txn.number ≡ m.begun + 1 = ap (λ (v : TxnId). v.number) s in
     absurd {A = ⊥} (omega arith) in
     record {
-      lives = put_rest (LifeNumbered (at_start (with_begun w b))) w.masters k (Some r.master) (alike_numbered (at_start (with_begun w b)) k n r.master (finish_alike k w.elements n) g) (λ j d. others_on w b k j (w.masters j) f.life d (i.lives j));
+      lives = put_rest (LifeNumbered (at_start (with_begun w b))) w.masters k (Some r.master) (alike_numbered (at_start (with_begun w b)) k n r.master (finish_alike k n) g) (λ j d. others_on w b k j (w.masters j) f.life d (i.lives j));
       owners = λ a u. ⊎_elim (λ s. (k, subst (Lives (at_start w) k) (ap (λ (v : Begun). v.txn.epoch) (sym s)) f.life)) (λ s. i.owners a s) u;
       once = λ a c u v s. ⊎_elim (λ y. ⊎_elim (λ z. ap (λ (t : Begun). t.parts) (y ∙ sym z)) (λ z. absurd (clash c z (sym s ∙ ap (λ (t : Begun). t.txn) y))) v)
           (λ y. ⊎_elim (λ z. absurd (clash a y (s ∙ ap (λ (t : Begun). t.txn) z))) (λ z. i.once a c y z s) v) u;
     }
 
-give_up_ids : (w : World) (k : ℕ) (y : Txn) (o : Option Master) → Ids w → w.masters k ≡ o → Ids (give_up_at w k y o)
+begin_ids : (w : World) (k : ℕ) (ps : List ℕ) (changes : ℕ → ℕ) (o : Option Master) → Ids w → w.masters k ≡ o → Ids (begin_at w k ps changes o)
+begin_ids w k ps changes None i e = i
+begin_ids w k ps changes (Some m) i e = begin_by_ids w k ps changes m (begin_refusal m ps changes) i e
+
+give_up_by_ids : (w : World) (k : ℕ) (y : TxnId) (m : Master) (r : Option Refusal) → Ids w → w.masters k ≡ Some m → Ids (give_up_by w k y m r)
+give_up_by_ids w k y m (Some r) i e = i
+give_up_by_ids w k y m None i e = speaks_ids w k m (gives_up m y) _ [] i e (refl, refl) (finish_alike k (gives_up m y))
+
+give_up_ids : (w : World) (k : ℕ) (y : TxnId) (o : Option Master) → Ids w → w.masters k ≡ o → Ids (give_up_at w k y o)
 give_up_ids w k y None i e = i
-give_up_ids w k y (Some m) i e = speaks_ids w k m (gives_up m y) _ [] i e (refl, refl) (finish_alike k w.elements (gives_up m y))
+give_up_ids w k y (Some m) i e = give_up_by_ids w k y m (give_up_refusal m y) i e
 
 resend_ids : (w : World) (k p : ℕ) (o : Option Master) → Ids w → Ids (resend_at w k p o)
 resend_ids w k p None i = i
 resend_ids w k p (Some m) i = record { lives = i.lives; owners = i.owners; once = i.once }
 
+change_by_ids : (w : World) (k p : ℕ) (m : Master) (r : Option Refusal) → Ids w → w.masters k ≡ Some m → Ids (change_by w k p m r)
+change_by_ids w k p m (Some r) i e = i
+change_by_ids w k p m None i e = speaks_ids w k m m _ [] i e (refl, refl) (one_alike k m p (Some Plain))
+
 change_ids : (w : World) (k p : ℕ) (o : Option Master) → Ids w → w.masters k ≡ o → Ids (change_at w k p o)
 change_ids w k p None i e = i
-change_ids w k p (Some m) i e = cond_all Ids (is_none (m.at p).waits) (speaks w k [] (sends_one k m p (Some Plain))) w (λ _. speaks_ids w k m m _ [] i e (refl, refl) (one_alike k m p (Some Plain))) (λ _. i)
+change_ids w k p (Some m) i e = change_by_ids w k p m (plain_refusal m p) i e
+
+says_ids : (w : World) (ss : List Sent) → Ids w → Ids (says w ss)
+says_ids w ss i = record { lives = i.lives; owners = i.owners; once = i.once }
 
 happens_ids : (w : World) (s : Step) → Ids w → Ids (happens w s)
-happens_ids w (Open p k) i = record { lives = i.lives; owners = i.owners; once = i.once }
-happens_ids w (Murmur p ks) i = record { lives = i.lives; owners = i.owners; once = i.once }
+happens_ids w (Open p k) i = cond_all Ids (among p w.network.elements && is_some (controller_of w.network.controllers k)) (says w (sent p k Setup ∷ [])) w (λ _. says_ids w _ i) (λ _. i)
+happens_ids w (Moment p ks) i = cond_all Ids (among p w.network.elements) (says w (murmurs p ks)) w (λ _. says_ids w _ i) (λ _. i)
 happens_ids w (Change k p) i = change_ids w k p (w.masters k) i refl
-happens_ids w (Deliver n ok) i = delivers_ids w ok (slice_get w.sent n) i
-happens_ids w (Start k r) i =
-    cond_all Ids (nat_lt k 256 && (is_none (w.masters k) && not (among r (w.used k)))) (starts w k r) w
-    (λ e. start_ids w k r (below _ _ (both_first (nat_lt k 256) _ e)) (not_false _ (both_second (is_none (w.masters k)) _ (both_second (nat_lt k 256) _ e))) i) (λ _. i)
+happens_ids w (Deliver n ok) i = delivers_ids w ok (numbered w.sent n) i
+happens_ids w (Start k r) i = cond_all Ids (may_start w k r) (starts w k r) w (λ e. let v = may_start_is w k r e in start_ids w k r v.0 v.1 i) (λ _. i)
 happens_ids w (Stop k) i = record { lives = put_rest (LifeNumbered (at_start w)) w.masters k None tt (λ j _. i.lives j); owners = i.owners; once = i.once }
 happens_ids w (Begin k ps changes) i = begin_ids w k ps changes (w.masters k) i refl
 happens_ids w (Give_up k y) i = give_up_ids w k y (w.masters k) i refl
@@ -191,15 +223,15 @@ run_ids : (ss : List Step) (w : World) → Ids w → Ids (run ss w)
 run_ids [] w i = i
 run_ids (s ∷ ss) w i = run_ids ss (happens w s) (happens_ids w s i)
 
-first_ids : (es : List ℕ) → Ids (first_world es)
-first_ids es = record { lives = λ _. tt; owners = λ b i. absurd i; once = λ a b i. absurd i }
+first_ids : (net : Network) → Ids (first_world net)
+first_ids net = record { lives = λ _. tt; owners = λ b i. absurd i; once = λ a b i. absurd i }
 
 -- the participants that x was begun with
-abbrev parts_of : Txn → List Begun → List ℕ
+abbrev parts_of : TxnId → List Begun → List ℕ
 parts_of x [] = []
 parts_of x (b ∷ bs) = cond (same x b.txn) b.parts (parts_of x bs)
 
-parts_in : (x : Txn) (bs : List Begun) (b : Begun) → In b bs → b.txn ≡ x → (a : Begun) × In a bs × (a.txn ≡ x) × (a.parts ≡ parts_of x bs)
+parts_in : (x : TxnId) (bs : List Begun) (b : Begun) → In b bs → b.txn ≡ x → (a : Begun) × In a bs × (a.txn ≡ x) × (a.parts ≡ parts_of x bs)
 parts_in x [] b i e = absurd i
 parts_in x (a ∷ bs) b i e =
     ⊎_elim (λ s. (a, inl refl, sym (same_true x a.txn s), sym (cond_true _ a.parts _ s)))
@@ -210,27 +242,49 @@ parts_in x (a ∷ bs) b i e =
     false_parts true v w e = cc
     false_parts false v w e = refl
 
-named : (w : World) (x : Txn) → Ids w → Named x (parts_of x w.begun) w.begun
+named : (w : World) (x : TxnId) → Ids w → Named x (parts_of x w.begun) w.begun
 named w x i b n e = let r = parts_in x w.begun b n e in i.once b r.0 n r.1 (e ∙ sym r.2) ∙ r.3
 
-module _ (es : List ℕ) (ss : List Step) where
+-- a job that is settled whole is settled at each participant
+settled_among : (j : Job) (ps : List ℕ) (p : ℕ) → all_settled j ps ≡ true → among p ps ≡ true → j.settled p ≡ true
+settled_among j [] p e a = cc
+settled_among j (q ∷ ps) p e a =
+    ⊎_elim (λ u. ap j.settled (eqb-true p q u) ∙ both_first (j.settled q) _ e) (λ u. settled_among j ps p (both_second (j.settled q) _ e) (or_false (p == q) (among p ps) u a)) (both (p == q))
+  where
+    or_false : (a b : Bool) → a ≡ false → (a || b) ≡ true → b ≡ true
+    or_false true b e f = cc
+    or_false false b e f = f
+
+module _ (net : Network) (ss : List Step) where
   abbrev pub world : World
-  world = run ss (first_world es)
+  world = run ss (first_world net)
 
-  goes : (x : Txn) → Goes x (parts_of x world.begun) world
-  goes x = run_tied x (parts_of x world.begun) ss (first_world es) start (named world x (run_ids ss (first_world es) (first_ids es))) (first_tied x (parts_of x world.begun) es)
+  goes : (x : TxnId) → Goes x (parts_of x world.begun) world
+  goes x = run_tied x (parts_of x world.begun) ss (first_world net) start (named world x (run_ids ss (first_world net) (first_ids net))) (first_tied x (parts_of x world.begun) net)
 
-  pub agree_law : (x : Txn) (p q : ℕ) (d g : Decision) → In (Settled_at p x d) world.facts → In (Settled_at q x g) world.facts → d ≡ g
+  pub agree_law : Agree world.facts
   agree_law x p q d g = agrees x (parts_of x world.begun) world (goes x) p q d g
 
-  pub once_law : (x : Txn) (p : ℕ) (d g : Decision) (later before : List Fact) → world.facts ≡ later ++ Settled_at p x d ∷ before → In (Settled_at p x g) before → ⊥
+  pub once_law : SettleOnce world.facts
   once_law x p d g later before = settles_once x (parts_of x world.begun) world (goes x) p d g later before
 
-  pub ready_law : (x : Txn) (p : ℕ) (later before : List Fact) → world.facts ≡ later ++ Settled_at p x Complete ∷ before → (ps : List ℕ) × In (Opened_at p x ps) before × ((q : ℕ) → among q ps ≡ true → In (Prepared_at q x) before)
+  pub ready_law : Ready world.facts
   ready_law x p later before = readies x (parts_of x world.begun) world (goes x) p later before
 
-  pub parts_law : (x : Txn) (p q : ℕ) (ps qs : List ℕ) → In (Opened_at p x ps) world.facts → In (Opened_at q x qs) world.facts → ps ≡ qs
-  parts_law x p q ps qs = opens_alike x (parts_of x world.begun) world (goes x) p q ps qs
+  pub one_plan_law : OnePlan world.facts
+  one_plan_law x p q ps qs = opens_alike x (parts_of x world.begun) world (goes x) p q ps qs
 
-  pub settled_law : (k : ℕ) (m : Master) (j : Job) (p : ℕ) → world.masters k ≡ Some m → In j m.jobs → j.settled p ≡ true → (d : Decision) × (j.decision ≡ Some d) × In (Settled_at p j.txn d) world.facts
+  pub settled_law : Settled world
   settled_law k m j p e i s = settled_there j.txn (parts_of j.txn world.begun) world (goes j.txn) k m j p e i refl s
+
+  pub settled_whole_law : SettledWhole world
+  settled_whole_law k m j p e i s a = settled_law k m j p e i (settled_among j j.parts p s a)
+
+  pub begun_once_law : BegunOnce world
+  begun_once_law = (run_ids ss (first_world net) (first_ids net)).once
+
+  pub says_once_law : SaysOnce world
+  says_once_law x p q j k m n = says_apart x (parts_of x world.begun) world (goes x) p q j k m n
+
+  pub follows_core_law : FollowsCore world
+  follows_core_law x = follows x (parts_of x world.begun) world (goes x)

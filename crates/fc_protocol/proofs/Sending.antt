@@ -1,10 +1,15 @@
 -- What is due, and what it shows.
-use Rattle.std.proofs.Common.{◌≡◌, ℕ, ◌+◌, ◌≤◌, ◌==◌, ◌&&◌, ◌||◌, not, Bool, true, false, cond, nat_le, List, [], ◌∷◌, ◌++◌, Option, Some, None, is_none, is_some, ◌⊎◌, inl, inr, ⊎_elim, refl, sym, ap, ◌∙◌, subst, arith}
-use Rattle.fc_protocol.specs.Core.{Decision, Complete, Abort, among}
-use Rattle.fc_protocol.specs.Elements.{Txn, Stamp, Body, Claim, Sot, Mot, Eot, Trcomp, Abt, Ask, Ask_record, Plain, is_query, Request, Sent, sent}
-use Rattle.fc_protocol.specs.Masters.{Job, Waiting, Peer, Master, own_body, decision_body, body_by, needs, or_next, first_need, due, count_of, is_claim, stamp_of, sending, at_put}
+use Rattle.std.proofs.Common.{◌≡◌, ℕ, ◌+◌, ◌≤◌, ◌==◌, ◌&&◌, ◌||◌, not, Bool, true, false, cond, nat_le, nat_lt, List, [], ◌∷◌, ◌++◌, Option, Some, None, is_none, is_some, ◌⊎◌, inl, inr, ⊎_elim, refl, sym, ap, ◌∙◌, subst, arith}
+use Rattle.fc_protocol.specs.Agreement.{decision_of}
+use Rattle.fc_protocol.specs.Collections.{among, or_next}
+use Rattle.fc_protocol.specs.Jobs.{Job, own_body, decision_body, body_by, needs, first_need}
+use Rattle.fc_protocol.specs.MasterMachine.{unspent, wanted, last_count, Waiting, Peer, Master, due, count_of, stamp_of, sending, at_put}
+use Rattle.fc_protocol.specs.Messages.{Malformed, Stamp, Body, Claim, Sot, Mot, Eot, Trcomp, Abt, Ask, Ask_record, Plain, is_query, Request, Sent, sent, is_claim}
+use Rattle.fc_protocol.specs.declared.ids.TxnId.{TxnId}
+use Rattle.fc_protocol.specs.declared.states.Decision.{Decision}
+use Rattle.fc_protocol.specs.declared.states.Decision.TheVariants.{Complete, Abort}
 use Rattle.fc_protocol.proofs.Basics.{In, in_left, in_right, in_either, all_in, cond_true, cond_false, both, some_same, put_rest}
-use Rattle.fc_protocol.proofs.Facts.{Past, Asked, Unique, Means, RequestFine, SentFine, JobFine, JobsFine, PeerFine, MasterFine, Later, decision_of, jobs_on}
+use Rattle.fc_protocol.proofs.Facts.{Past, Asked, Unique, Means, RequestFine, SentFine, JobFine, JobsFine, PeerFine, MasterFine, Later, jobs_on}
 use Rattle.fc_protocol.proofs.Jobs.{once_found}
 
 if_some : {A : Type 0} (b : Bool) (o : Option A) (v : A) → cond b o None ≡ Some v → (b ≡ true) × (o ≡ Some v)
@@ -23,7 +28,7 @@ first_job : (js : List Job) (p : ℕ) (b : Body) → first_need js p ≡ Some b 
 first_job [] p b e = cc
 first_job (j ∷ js) p b e = ⊎_elim (λ k. (j, inl refl, k)) (λ k. let r = first_job js p b k in (r.0, inr r.1, r.2)) (or_either (needs j p) (first_need js p) b e)
 
-module _ (x : Txn) (parts : List ℕ) (h : Past) where
+module _ (x : TxnId) (parts : List ℕ) (h : Past) where
   abbrev pub Due : ℕ → ℕ → Body → Type 0
   Due e p b = Means x parts h e p b × (is_claim b ≡ true → b ≡ Claim e)
 
@@ -56,10 +61,14 @@ module _ (x : Txn) (parts : List ℕ) (h : Past) where
   due_by m p k b false false true f e = subst (Due m.epoch p) (some_same _ _ e) (tt, (λ u. cc))
   due_by m p k b false false false f e = need_means m.epoch m.begun p m.jobs b f.jobs e
 
+  unspent_is : (y : Peer) (o : Option Body) (b : Body) → unspent y o ≡ Some b → o ≡ Some b
+  unspent_is y None b e = e
+  unspent_is y (Some a) b e = (if_some (nat_lt (count_of a y) last_count) (Some a) b e).1
+
   pub due_means : (m : Master) (p k : ℕ) (b : Body) → MasterFine x parts h k m → due m p ≡ Some b → Due m.epoch p b
   due_means m p k b f e =
       let y = m.at p in
-      due_by m p k b y.doubt (not y.claimed) (not y.answered) f (if_some ((y.met && not y.lost) && (is_none y.waits && is_none m.deposed)) _ b e).1
+      due_by m p k b y.doubt (not y.claimed) (not y.answered) f (unspent_is y (wanted m p y) b (if_some ((y.met && not y.lost) && (is_none y.waits && is_none m.deposed)) _ b e).1)
 
 -- a new request
 claim_body : (b : Body) → is_claim b ≡ true → is_query b ≡ false
@@ -72,6 +81,7 @@ claim_body (Abt y) e = cc
 claim_body Ask e = cc
 claim_body (Ask_record y) e = cc
 claim_body Plain e = cc
+claim_body Malformed e = cc
 
 count_same : (a b : Body) (y : Peer) → is_query a ≡ is_query b → count_of a y ≡ count_of b y
 count_same a b y e = ap (λ q. cond q y.queries y.last) e
@@ -95,7 +105,7 @@ reaches true false m l k = omega arith
 reaches false true m l k = omega arith
 reaches false false m l k = omega arith
 
-module _ (x : Txn) (parts : List ℕ) (h : Past) (k : ℕ) (m : Master) (p : ℕ) (b : Body) where
+module _ (x : TxnId) (parts : List ℕ) (h : Past) (k : ℕ) (m : Master) (p : ℕ) (b : Body) where
   abbrev the_stamp : Stamp
   the_stamp = stamp_of m.epoch b (m.at p)
 

@@ -1,9 +1,12 @@
 -- What elements say keeps the whole.
 use Rattle.std.proofs.Common.{◌≡◌, ℕ, List, ◌++◌, Option, Some, None, ⊎_elim, refl, sym, ap, ◌∙◌, subst}
 use Rattle.fc_protocol.specs.Core.{Core}
-use Rattle.fc_protocol.specs.Elements.{Txn, Stamp, Body, Message, Setup, Request, Reply, Holds, Tells, Other_up, Other_down, Sent, sent, Heard, Fact}
-use Rattle.fc_protocol.specs.Masters.{Master}
-use Rattle.fc_protocol.specs.World.{World, spoken, to_element}
+use Rattle.fc_protocol.specs.ElementMachine.{Heard}
+use Rattle.fc_protocol.specs.MasterMachine.{Master}
+use Rattle.fc_protocol.specs.Messages.{Beat, Unread, Stamp, Body, Message, Setup, Request, Reply, Holds, Tells, Other_up, Other_down, Sent, sent}
+use Rattle.fc_protocol.specs.Trace.{Fact}
+use Rattle.fc_protocol.specs.WorldSteps.{World, spoken, to_element}
+use Rattle.fc_protocol.specs.declared.ids.TxnId.{TxnId}
 use Rattle.fc_protocol.proofs.Basics.{In, in_left, in_either, put_other, put_rest}
 use Rattle.fc_protocol.proofs.Facts.{Past, past, Unique, SentFine, ElFine, LifeFine, Tied, Later, Apart, message_on, el_on, master_on}
 use Rattle.fc_protocol.proofs.Hearing.{on, later_turned, SaysFine, Went}
@@ -15,7 +18,7 @@ pub unique_quiet : (ss ts : List Sent) → Unique ss → Quiet ts → Unique (ss
 unique_quiet ss ts u q p j k s a b i l e =
     ⊎_elim (λ m. ⊎_elim (λ n. u p j k s a b m n e) (λ n. absurd (q p k s b n)) (in_either _ ss ts l)) (λ m. absurd (q p j s a m)) (in_either _ ss ts i)
 
-module _ (x : Txn) (parts : List ℕ) where
+module _ (x : TxnId) (parts : List ℕ) where
   pub later_trans : (f g h : Past) → Later x parts f g → Later x parts g h → Later x parts f h
   later_trans f g h a b = record {
     decided = λ e d i. b.decided e d (a.decided e d i);
@@ -42,6 +45,8 @@ module _ (x : Txn) (parts : List ℕ) where
   pub says_quiet : (h g : Past) (fs : List Fact) (p k : ℕ) (m : Option Message) → SaysFine x parts h fs g p k m → Quiet (spoken p k m)
   says_quiet h g fs p k None f = λ q j s b i. absurd i
   says_quiet h g fs p k (Some Setup) f = λ q j s b i. ⊎_elim (λ e. let u : Request s b ≡ Setup = ap (λ (v : Sent). v.message) e in cc) (λ n. absurd n) i
+  says_quiet h g fs p k (Some Beat) f = λ q j s b i. ⊎_elim (λ e. let u : Request s b ≡ Beat = ap (λ (v : Sent). v.message) e in cc) (λ n. absurd n) i
+  says_quiet h g fs p k (Some (Unread t v)) f = λ q j s b i. ⊎_elim (λ e. let u : Request s b ≡ Unread t v = ap (λ (v : Sent). v.message) e in cc) (λ n. absurd n) i
   says_quiet h g fs p k (Some (Request s b)) f = absurd f
   says_quiet h g fs p k (Some (Reply t c)) f = λ q j s b i. ⊎_elim (λ e. let u : Request s b ≡ Reply t c = ap (λ (v : Sent). v.message) e in cc) (λ n. absurd n) i
   says_quiet h g fs p k (Some (Holds t e ns)) f = λ q j s b i. ⊎_elim (λ v. let u : Request s b ≡ Holds t e ns = ap (λ (v : Sent). v.message) v in cc) (λ n. absurd n) i
@@ -52,6 +57,8 @@ module _ (x : Txn) (parts : List ℕ) where
   says_sent : (h g : Past) (fs : List Fact) (p k : ℕ) (m : Option Message) → SaysFine x parts h fs g p k m → (s : Sent) → In s (spoken p k m) → SentFine x parts g s
   says_sent h g fs p k None f s i = absurd i
   says_sent h g fs p k (Some Setup) f s i = ⊎_elim (λ e. subst (SentFine x parts g) (sym e) tt) (λ n. absurd n) i
+  says_sent h g fs p k (Some Beat) f s i = ⊎_elim (λ e. subst (SentFine x parts g) (sym e) tt) (λ n. absurd n) i
+  says_sent h g fs p k (Some (Unread t v)) f s i = ⊎_elim (λ e. subst (SentFine x parts g) (sym e) tt) (λ n. absurd n) i
   says_sent h g fs p k (Some (Request t b)) f s i = absurd f
   says_sent h g fs p k (Some (Reply t c)) f s i = ⊎_elim (λ e. subst (SentFine x parts g) (sym e) f) (λ n. absurd n) i
   says_sent h g fs p k (Some (Holds t e ns)) f s i = ⊎_elim (λ v. subst (SentFine x parts g) (sym v) f) (λ n. absurd n) i

@@ -1,0 +1,29 @@
+use Rattle.fc_protocol.proofs.Numbers.{agree_law, once_law, ready_law, one_plan_law, settled_law, settled_whole_law, begun_once_law, says_once_law, follows_core_law}
+use Rattle.fc_protocol.proofs.laws.agreement.Goals as goal
+
+pub returns-clause-agree : goal.returns-clause-agree
+returns-clause-agree c = agree_law
+
+pub returns-clause-once : goal.returns-clause-once
+returns-clause-once c = once_law
+
+pub returns-clause-ready : goal.returns-clause-ready
+returns-clause-ready c = ready_law
+
+pub returns-clause-one_plan : goal.returns-clause-one_plan
+returns-clause-one_plan c = one_plan_law
+
+pub returns-clause-settled : goal.returns-clause-settled
+returns-clause-settled c = settled_law
+
+pub returns-clause-settled_whole : goal.returns-clause-settled_whole
+returns-clause-settled_whole c = settled_whole_law
+
+pub returns-clause-begun_once : goal.returns-clause-begun_once
+returns-clause-begun_once c = begun_once_law
+
+pub returns-clause-says_once : goal.returns-clause-says_once
+returns-clause-says_once c = says_once_law
+
+pub returns-clause-follows_core : goal.returns-clause-follows_core
+returns-clause-follows_core c = follows_core_law

@@ -1,0 +1,69 @@
+-- The records that an element keeps of transactions, in order of entry. This profile's own.
+use Rattle.std.specs.Prelude.{ℕ, ◌||◌, Bool, true, false, nat_le, List, [], ◌∷◌, length, Option, Some, None, if◌then◌else◌}
+use Rattle.fc_protocol.specs.declared.ids.TxnId.{TxnId}
+use Rattle.fc_protocol.specs.declared.states.Seen.{Seen}
+use Rattle.fc_protocol.specs.declared.states.Seen.TheVariants.{Absent, Started, Prepared, Completed, Aborted}
+use Rattle.fc_protocol.specs.declared.states.TxnState.{TxnState}
+use Rattle.fc_protocol.specs.declared.states.TxnState.TheVariants.{Started as RecordStarted, Prepared as RecordPrepared, Completed as RecordCompleted, Aborted as RecordAborted}
+use Rattle.fc_protocol.specs.Messages.{Entry, same}
+
+-- the state of the record of x, where there is one
+abbrev pub state_of : TxnId → List Entry → Option TxnState
+state_of x [] = None
+state_of x (n ∷ ns) = if same x n.txn then Some n.state else state_of x ns
+
+-- what a record, or that there is none, tells a controller
+abbrev pub seen : Option TxnState → Seen
+seen None = Absent
+seen (Some RecordStarted) = Started
+seen (Some RecordPrepared) = Prepared
+seen (Some RecordCompleted) = Completed
+seen (Some RecordAborted) = Aborted
+
+abbrev pub entry : TxnId → List ℕ → TxnState → Entry
+entry x ps s = record { txn = x; state = s; parts = ps }
+
+-- the records where that of x has the state s; a new one stands last, with the participants ps
+abbrev pub write : TxnId → List ℕ → TxnState → List Entry → List Entry
+write x ps s [] = entry x ps s ∷ []
+write x ps s (n ∷ ns) = if same x n.txn then entry n.txn n.parts s ∷ ns else n ∷ write x ps s ns
+
+abbrev pub noted : TxnId → List ℕ → Option TxnState → List Entry → List Entry
+noted x ps None ns = ns
+noted x ps (Some s) ns = write x ps s ns
+
+-- whether the transaction is held: neither completed nor aborted
+abbrev pub is_held : TxnState → Bool
+is_held RecordStarted = true
+is_held RecordPrepared = true
+is_held RecordCompleted = false
+is_held RecordAborted = false
+
+abbrev pub held : List Entry → List Entry
+held [] = []
+held (n ∷ ns) = if is_held n.state then n ∷ held ns else held ns
+
+abbrev pub any_held : List Entry → Bool
+any_held [] = false
+any_held (n ∷ ns) = is_held n.state || any_held ns
+
+-- an element keeps at most 4,096 records
+abbrev pub is_full : List Entry → Bool
+is_full ns = nat_le 4096 (length ns)
+
+abbrev pub still_started : TxnState → Bool
+still_started RecordStarted = true
+still_started RecordPrepared = false
+still_started RecordCompleted = false
+still_started RecordAborted = false
+
+-- a claim undoes what is started, and nothing else
+abbrev pub undone : TxnState → TxnState
+undone RecordStarted = RecordAborted
+undone RecordPrepared = RecordPrepared
+undone RecordCompleted = RecordCompleted
+undone RecordAborted = RecordAborted
+
+abbrev pub all_undone : List Entry → List Entry
+all_undone [] = []
+all_undone (n ∷ ns) = entry n.txn n.parts (undone n.state) ∷ all_undone ns
