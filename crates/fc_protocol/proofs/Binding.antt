@@ -10,10 +10,10 @@ use Rattle.fc_protocol.specs.Messages.{Trcomp, Abt, Malformed, Beat, Unread, sam
 use Rattle.fc_protocol.specs.Records.{seen, state_of}
 use Rattle.fc_protocol.specs.Trace.{Fact, Opened_at, Prepared_at, Settled_at}
 use Rattle.fc_protocol.specs.WorldSteps.{Open, Give_up, Network, controller_of, World, Begun, Step, Deliver, Moment, Start, Stop, Begin, Change, Resend, murmurs, sender, numbered, is_round, may_start, begin_by, give_up_by, change_by, change_at, first_world, says, with_master, with_begun, speaks, to_master, to_element, delivered, delivers, starts, begin_at, give_up_at, resend_at, happens, run}
-use Rattle.fc_protocol.specs.declared.ids.TxnId.{TxnId}
 use Rattle.fc_protocol.specs.declared.states.Decision.{Decision}
 use Rattle.fc_protocol.specs.declared.states.Decision.TheVariants.{Complete, Abort}
 use Rattle.fc_protocol.specs.declared.states.Seen.TheVariants.{Absent}
+use Rattle.fc_base.specs.Ids.{Txn}
 use Rattle.fc_protocol.proofs.Puts.{put_here, both_first, both_second}
 use Rattle.fc_protocol.proofs.Basics.{In, in_left, in_either, in_get, cond_false, all_in, all_on, both, same_true, same_of, put_other, put_rest, none_some, some_same}
 use Rattle.fc_protocol.proofs.Facts.{Past, past, Lives, Unique, Born, Named, SentFine, RequestFine, MessageFine, JobFine, PeerFine, MasterFine, LifeFine, Tied, Later, el_on, job_on, lives_on, Marks, GoodFact, GoodFacts, done}
@@ -81,7 +81,7 @@ in_numbered : (s : Sent) (ss : List Sent) (i : ℕ) → numbered ss i ≡ Some s
 in_numbered s ss zero e = cc
 in_numbered s ss (suc i) e = in_get s ss i e
 
-module _ (x : TxnId) (parts : List ℕ) where
+module _ (x : Txn) (parts : List ℕ) where
   master_is : (h : Past) (k : ℕ) (o : Option Master) (m : Master) → o ≡ Some m → LifeFine x parts h k o → MasterFine x parts h k m
   master_is h k o m e f = subst (LifeFine x parts h k) e f
 
@@ -355,7 +355,7 @@ module _ (x : TxnId) (parts : List ℕ) where
   or_some (Some j) t e = refl
 
   -- a transaction is begun
-  begin_tied : (w : World) (c : Core) (k : ℕ) (m : Master) (ps : List ℕ) (changes : ℕ → ℕ) (y : TxnId) → y ≡ record { epoch = m.epoch; number = m.begun + 1 } → Tied x parts (with_master w k m w.sent) c → Named x parts (record { txn = y; parts = ps } ∷ w.begun)
+  begin_tied : (w : World) (c : Core) (k : ℕ) (m : Master) (ps : List ℕ) (changes : ℕ → ℕ) (y : Txn) → y ≡ record { epoch = m.epoch; number = m.begun + 1 } → Tied x parts (with_master w k m w.sent) c → Named x parts (record { txn = y; parts = ps } ∷ w.begun)
       → Tied x parts (with_master (with_begun w (record { txn = y; parts = ps })) k (record m { begun = m.begun + 1; jobs = m.jobs ++ new_job y ps changes ∷ [] }) w.sent) c
   begin_tied w c k m ps changes y made t named =
       let b : Begun = record { txn = y; parts = ps } in
@@ -364,8 +364,8 @@ module _ (x : TxnId) (parts : List ℕ) where
       let g = past (with_master (with_begun w b) k n w.sent) c in
       let l : Later x parts h g = record { decided = λ _ _ i. i; told = λ _ i. i; final = λ q s o i. i; sent = λ _ i. i; used = λ _ _ i. i; born = λ o. (o.0, inr o.1, o.2) } in
       let f = master_of w c k m w.sent t in
-      let at_own = λ (i : y ≡ x). ap (λ (v : TxnId). v.epoch) (sym made) ∙ ap (λ (v : TxnId). v.epoch) i in
-      let number = λ (i : y ≡ x). ap (λ (v : TxnId). v.number) (sym made) ∙ ap (λ (v : TxnId). v.number) i in
+      let at_own = λ (i : y ≡ x). ap (λ (v : Txn). v.epoch) (sym made) ∙ ap (λ (v : Txn). v.epoch) i in
+      let number = λ (i : y ≡ x). ap (λ (v : Txn). v.number) (sym made) ∙ ap (λ (v : Txn). v.number) i in
       let born_or : Born x parts g → (y ≡ x) ⊎ Born x parts h = λ o. ⊎_elim (λ i. inl (ap (λ (v : Begun). v.txn) (sym i) ∙ o.2)) (λ i. inr (o.0, i, o.2)) o.1 in
       record {
         reached = t.reached;
@@ -421,7 +421,7 @@ module _ (x : TxnId) (parts : List ℕ) where
   begin_at_tied w c k ps changes None t e n = (c, t)
   begin_at_tied w c k ps changes (Some m) t e n = begin_by_tied w c k ps changes m (begin_refusal m ps changes) t e n
 
-  give_up_by_tied : (w : World) (c : Core) (k : ℕ) (y : TxnId) (m : Master) (r : Option Refusal) → Tied x parts w c → w.masters k ≡ Some m → Goes (give_up_by w k y m r)
+  give_up_by_tied : (w : World) (c : Core) (k : ℕ) (y : Txn) (m : Master) (r : Option Refusal) → Tied x parts w c → w.masters k ≡ Some m → Goes (give_up_by w k y m r)
   give_up_by_tied w c k y m (Some r) t e = (c, t)
   give_up_by_tied w c k y m None t e =
       let a = enter w c k m t e in
@@ -429,7 +429,7 @@ module _ (x : TxnId) (parts : List ℕ) where
       let d = give_up_fine x parts (past w c) m.epoch m.begun m.jobs y f.jobs in
       speak_tied w d.core k (gives_up m y) [] (silent w d.core k (gives_up m y) (decided_tied w c k m w.sent (map (given_up y) m.jobs) a d))
 
-  give_up_at_tied : (w : World) (c : Core) (k : ℕ) (y : TxnId) (o : Option Master) → Tied x parts w c → w.masters k ≡ o → Goes (give_up_at w k y o)
+  give_up_at_tied : (w : World) (c : Core) (k : ℕ) (y : Txn) (o : Option Master) → Tied x parts w c → w.masters k ≡ o → Goes (give_up_at w k y o)
   give_up_at_tied w c k y None t e = (c, t)
   give_up_at_tied w c k y (Some m) t e = give_up_by_tied w c k y m (give_up_refusal m y) t e
 
@@ -508,11 +508,11 @@ module _ (x : TxnId) (parts : List ℕ) where
   begun_begin w k ps changes None b i = i
   begun_begin w k ps changes (Some m) b i = begun_begin_by w k ps changes m (begin_refusal m ps changes) b i
 
-  begun_give_up_by : (w : World) (k : ℕ) (y : TxnId) (m : Master) (r : Option Refusal) → (give_up_by w k y m r).begun ≡ w.begun
+  begun_give_up_by : (w : World) (k : ℕ) (y : Txn) (m : Master) (r : Option Refusal) → (give_up_by w k y m r).begun ≡ w.begun
   begun_give_up_by w k y m (Some r) = refl
   begun_give_up_by w k y m None = refl
 
-  begun_give_up : (w : World) (k : ℕ) (y : TxnId) (o : Option Master) → (give_up_at w k y o).begun ≡ w.begun
+  begun_give_up : (w : World) (k : ℕ) (y : Txn) (o : Option Master) → (give_up_at w k y o).begun ≡ w.begun
   begun_give_up w k y None = refl
   begun_give_up w k y (Some m) = begun_give_up_by w k y m (give_up_refusal m y)
 

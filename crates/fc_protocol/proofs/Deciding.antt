@@ -5,12 +5,12 @@ use Rattle.fc_protocol.specs.Core.{Note, Element, Core, Decide, Give_up, Commit,
 use Rattle.fc_protocol.specs.Decide.{states_under, decision_by, any, every, is_completed, is_aborted, is_prepared, with_first, with_answer}
 use Rattle.fc_protocol.specs.Jobs.{Job, find, decides_job, with_decision, decided_job, given_up, is_for, answer_is}
 use Rattle.fc_protocol.specs.Messages.{same}
-use Rattle.fc_protocol.specs.declared.ids.Answer.{Answer}
-use Rattle.fc_protocol.specs.declared.ids.TxnId.{TxnId}
+use Rattle.fc_protocol.specs.declared.answers.Answer.{Answer}
 use Rattle.fc_protocol.specs.declared.states.Decision.{Decision}
 use Rattle.fc_protocol.specs.declared.states.Decision.TheVariants.{Complete, Abort}
 use Rattle.fc_protocol.specs.declared.states.Seen.{Seen}
 use Rattle.fc_protocol.specs.declared.states.Seen.TheVariants.{Absent, Started, Prepared, Completed, Aborted}
+use Rattle.fc_base.specs.Ids.{Txn}
 use Rattle.fc_protocol.proofs.Puts.{both_first, both_second, put_keep, put_here, was_none}
 use Rattle.fc_protocol.proofs.Basics.{all_in, cond_true, and_true, both, put_other, none_some}
 use Rattle.fc_protocol.proofs.Moves.{over, Told, note, Reached, reach_more}
@@ -111,7 +111,7 @@ answer_of : (d : Decision) (o : Option Answer) → answer_is d o ≡ true → (a
 answer_of d None e = cc
 answer_of d (Some a) e = (a, refl, for_done d a.seen e)
 
-module _ (x : TxnId) (parts : List ℕ) where
+module _ (x : Txn) (parts : List ℕ) where
   -- from c to d at most the life e has decided
   pub record Ruled (c d : Core) (e : ℕ) : Type 0 where
     pub at : (q : ℕ) → d.at q ≡ c.at q
@@ -261,7 +261,7 @@ module _ (x : TxnId) (parts : List ℕ) where
   given_txn j true = refl
   given_txn j false = refl
 
-  pub give_up_fine : (h : Past) (e begun : ℕ) (js : List Job) (y : TxnId) → JobsFine x parts h e begun js → Decided h e begun (map (given_up y) js)
+  pub give_up_fine : (h : Past) (e begun : ℕ) (js : List Job) (y : Txn) → JobsFine x parts h e begun js → Decided h e begun (map (given_up y) js)
   give_up_fine h e begun js y i =
       let test = λ (j : Job). same y j.txn && (j.mine && is_none j.decision) in
       let r = found_rules h e begun js (given_up y) (find x js) i refl (λ j o d. given_if h e j (test j) o d (λ t.

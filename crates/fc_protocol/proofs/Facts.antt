@@ -6,16 +6,17 @@ use Rattle.fc_protocol.specs.Core.{Note, Element, Core}
 use Rattle.fc_protocol.specs.ElementMachine.{ElementState}
 use Rattle.fc_protocol.specs.Jobs.{Job, find}
 use Rattle.fc_protocol.specs.MasterMachine.{Waiting, Peer, Master, count_of}
-use Rattle.fc_protocol.specs.Messages.{Malformed, Beat, Unread, same, Entry, Stamp, Body, Claim, Sot, Mot, Eot, Trcomp, Abt, Ask, Ask_record, Plain, is_query, Message, Setup, Request, Reply, Holds, Tells, Other_up, Other_down, Sent, sent}
+use Rattle.fc_protocol.specs.Messages.{Malformed, Beat, Unread, same, Stamp, Body, Claim, Sot, Mot, Eot, Trcomp, Abt, Ask, Ask_record, Plain, is_query, Message, Setup, Request, Reply, Holds, Tells, Other_up, Other_down, Sent, sent}
 use Rattle.fc_protocol.specs.Records.{is_held, seen, state_of}
 use Rattle.fc_protocol.specs.Trace.{Fact, Opened_at, Prepared_at, Settled_at, Claimed_at}
 use Rattle.fc_protocol.specs.WorldSteps.{Begun, World}
-use Rattle.fc_protocol.specs.declared.ids.Answer.{Answer}
-use Rattle.fc_protocol.specs.declared.ids.TxnId.{TxnId}
+use Rattle.fc_protocol.specs.declared.answers.Answer.{Answer}
+use Rattle.fc_protocol.specs.declared.answers.TxnEntry.{TxnEntry}
 use Rattle.fc_protocol.specs.declared.states.Decision.{Decision}
 use Rattle.fc_protocol.specs.declared.states.Decision.TheVariants.{Complete, Abort}
 use Rattle.fc_protocol.specs.declared.states.Seen.{Seen}
 use Rattle.fc_protocol.specs.declared.states.Seen.TheVariants.{Absent, Started, Prepared, Completed, Aborted}
+use Rattle.fc_base.specs.Ids.{Txn}
 use Rattle.fc_protocol.proofs.Basics.{In, AllOf, all_on}
 use Rattle.fc_protocol.proofs.Moves.{Told, note, Reached, over}
 
@@ -47,7 +48,7 @@ abbrev pub done : Decision → Seen
 done Complete = Completed
 done Abort = Aborted
 
-abbrev pub has : TxnId → List Entry → Bool
+abbrev pub has : Txn → List TxnEntry → Bool
 has x [] = false
 has x (n ∷ ns) = cond (same x n.txn) true (has x ns)
 
@@ -59,7 +60,7 @@ pub done_over : (d : Decision) → over (done d) ≡ true
 done_over Complete = refl
 done_over Abort = refl
 
-module _ (x : TxnId) (parts : List ℕ) where
+module _ (x : Txn) (parts : List ℕ) where
   abbrev pub Born : Past → Type 0
   Born h = (b : Begun) × In b h.begun × (b.txn ≡ x)
 
@@ -68,11 +69,11 @@ module _ (x : TxnId) (parts : List ℕ) where
   Named bs = (b : Begun) → In b bs → b.txn ≡ x → b.parts ≡ parts
 
   -- an entry of x at an element of this epoch
-  abbrev pub EntryFine : Past → ℕ → Entry → Type 0
-  EntryFine h e n = n.txn ≡ x → (is_held n.state ≡ true → n.parts ≡ parts) × (x.epoch ≤ e) × Born h
+  abbrev pub EntryFine : Past → ℕ → TxnEntry → Type 0
+  EntryFine h e n = n.txn ≡ x → (is_held n.state ≡ true → n.participants ≡ parts) × (x.epoch ≤ e) × Born h
 
-  abbrev pub HeldFine : Past → ℕ → Entry → Type 0
-  HeldFine h e n = n.txn ≡ x → (n.parts ≡ parts) × (x.epoch ≤ e) × Born h
+  abbrev pub HeldFine : Past → ℕ → TxnEntry → Type 0
+  HeldFine h e n = n.txn ≡ x → (n.participants ≡ parts) × (x.epoch ≤ e) × Born h
 
   -- what a request of the life e to p shows
   abbrev pub Means : Past → ℕ → ℕ → Body → Type 0
@@ -138,7 +139,7 @@ module _ (x : TxnId) (parts : List ℕ) where
   KeptFine h p (Some Other_down) = ⊥
 
   -- at most one entry is of x
-  abbrev pub Single : List Entry → Type 0
+  abbrev pub Single : List TxnEntry → Type 0
   Single [] = Unit {0}
   Single (n ∷ ns) = (same x n.txn ≡ true → has x ns ≡ false) × Single ns
 
@@ -255,10 +256,10 @@ module _ (x : TxnId) (parts : List ℕ) where
     pub reply_on : (p : ℕ) (s : Stamp) (code : ℕ) → ReplyFine h p s code → ReplyFine g p s code
     reply_on p s code r = record { body = r.body; controller = r.controller; asked = l.sent _ r.asked; kind = r.kind; prepared = λ z e. l.told _ (r.prepared z e); completed = λ z e. l.final p Completed refl (r.completed z e); aborted = λ z e. l.final p Aborted refl (r.aborted z e) }
 
-    pub held_on : (e : ℕ) (n : Entry) → HeldFine h e n → HeldFine g e n
+    pub held_on : (e : ℕ) (n : TxnEntry) → HeldFine h e n → HeldFine g e n
     held_on e n f = λ t. let k = f t in (k.0, k.1, l.born k.2)
 
-    pub entry_on : (e : ℕ) (n : Entry) → EntryFine h e n → EntryFine g e n
+    pub entry_on : (e : ℕ) (n : TxnEntry) → EntryFine h e n → EntryFine g e n
     entry_on e n f = λ t. let k = f t in (k.0, k.1, l.born k.2)
 
     pub message_on : (p k : ℕ) (m : Message) → MessageFine h p k m → MessageFine g p k m

@@ -6,10 +6,10 @@ use Rattle.fc_protocol.specs.Fence.{judge, claims}
 use Rattle.fc_protocol.specs.Messages.{Malformed, Beat, Unread, is_epoch, claim_of, Stamp, Body, Claim, Sot, Mot, Eot, Trcomp, Abt, Ask, Ask_record, Plain, is_query, Message, Setup, Request, Reply, Holds, Tells, Other_up, Other_down}
 use Rattle.fc_protocol.specs.Records.{seen, state_of, held}
 use Rattle.fc_protocol.specs.Trace.{Fact, Claimed_at, undone_facts}
-use Rattle.fc_protocol.specs.declared.ids.TxnId.{TxnId}
 use Rattle.fc_protocol.specs.declared.states.Seen.TheVariants.{Prepared}
 use Rattle.fc_protocol.specs.declared.verdict.Verdict.{Verdict}
 use Rattle.fc_protocol.specs.declared.verdict.Verdict.TheVariants.{Claim as Claims, Unclaimed, Stale, Again, Next, Gap}
+use Rattle.fc_base.specs.Ids.{Txn}
 use Rattle.fc_protocol.proofs.Puts.{both_first, both_second, put_keep}
 use Rattle.fc_protocol.proofs.Basics.{AllOf, all_on, both, put_other}
 use Rattle.fc_protocol.proofs.Moves.{Told, note, Turned, turned_none, raises, tells}
@@ -66,7 +66,7 @@ claims_claim el k m b g e =
     let t = opens_claim el k m b r.0 in
     (t.0, t.1, r.1)
 
-module _ (x : TxnId) (parts : List ℕ) (h : Past) (fs : List Fact) where
+module _ (x : Txn) (parts : List ℕ) (h : Past) (fs : List Fact) where
   pub later_turned : (d : Core) (p : ℕ) → Turned x.epoch parts h.core d p → Later x parts h (on h d)
   later_turned d p t = record { decided = λ e i u. t.decided e ∙ u; told = t.told; final = t.final; sent = λ s i. i; used = λ k r i. i; born = λ b. b }
 
@@ -209,7 +209,7 @@ module _ (x : TxnId) (parts : List ℕ) (h : Past) (fs : List Fact) where
   config p k from el ok s b v f a m q = by_misfit p k from el s b ok (ok.misfit == 0) refl v f a m q
 
   -- the record of y is told
-  told : (p k : ℕ) (el : ElementState) (s : Stamp) (y : TxnId) → Before x parts h.core fs → ElFine x parts h p el (h.core.at p) → Asked h p k s (Ask_record y) → Went p k (only_says el (Some (Tells s el.epoch (seen (state_of y el.records)))))
+  told : (p k : ℕ) (el : ElementState) (s : Stamp) (y : Txn) → Before x parts h.core fs → ElFine x parts h p el (h.core.at p) → Asked h p k s (Ask_record y) → Went p k (only_says el (Some (Tells s el.epoch (seen (state_of y el.records)))))
   told p k el s y v f a =
       let t = tells x.epoch parts h.core p in
       let l = later_turned t.0 p t.1 in

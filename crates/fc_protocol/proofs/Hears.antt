@@ -3,10 +3,11 @@ use Rattle.std.proofs.Common.{◌≡◌, ℕ, ◌<◌, ◌≤◌, ◌==◌, ◌|
 use Rattle.fc_protocol.specs.Collections.{among, put}
 use Rattle.fc_protocol.specs.Jobs.{answer}
 use Rattle.fc_protocol.specs.MasterMachine.{unread_told, Waiting, Peer, Master, at_put, after_code, after_ask, unmatched, dropped, depose, matches, coded, is_lower, by_epoch, held_by, held_told, record_by, record_told, heard}
-use Rattle.fc_protocol.specs.Messages.{Malformed, Beat, Unread, Entry, Stamp, same_stamp, Body, Claim, Sot, Mot, Eot, Trcomp, Abt, Ask, Ask_record, Plain, is_query, Message, Setup, Request, Reply, Holds, Tells, Other_up, Other_down, Sent, sent}
-use Rattle.fc_protocol.specs.declared.ids.TxnId.{TxnId}
+use Rattle.fc_protocol.specs.Messages.{Malformed, Beat, Unread, Stamp, same_stamp, Body, Claim, Sot, Mot, Eot, Trcomp, Abt, Ask, Ask_record, Plain, is_query, Message, Setup, Request, Reply, Holds, Tells, Other_up, Other_down, Sent, sent}
+use Rattle.fc_protocol.specs.declared.answers.TxnEntry.{TxnEntry}
 use Rattle.fc_protocol.specs.declared.states.Seen.{Seen}
 use Rattle.fc_protocol.specs.declared.states.Seen.TheVariants.{Prepared}
+use Rattle.fc_base.specs.Ids.{Txn}
 use Rattle.fc_protocol.proofs.Puts.{both_first, both_second, put_all}
 use Rattle.fc_protocol.proofs.Basics.{In, AllOf, stamp_true, none_some}
 use Rattle.fc_protocol.proofs.Moves.{Told, note, over}
@@ -31,7 +32,7 @@ is_not false e = refl
 is_zero : (n : ℕ) → (n == 0) ≡ true → n ≡ 0
 is_zero n e = eqb-true n 0 e
 
-module _ (x : TxnId) (parts : List ℕ) (h : Past) (k : ℕ) where
+module _ (x : Txn) (parts : List ℕ) (h : Past) (k : ℕ) where
   -- a peer that waits for nothing, with the same counts
   idle : (e p : ℕ) (y z : Peer) → z.waits ≡ None → z.last ≡ y.last → z.queries ≡ y.queries → PeerFine x parts h k e p y → PeerFine x parts h k e p z
   idle e p y z n l q f = record {
@@ -93,7 +94,7 @@ module _ (x : TxnId) (parts : List ℕ) (h : Past) (k : ℕ) where
       (idle m.epoch p (m.at p) (after_code (m.at p) o.body code) refl refl refl (f.peers p))
       (by_code_fine x parts h m.epoch m.begun p o.body (code == 0) m.jobs f.jobs t.means ((λ z v. subst (λ n. Told h.core.notes (note n p Prepared)) t.life (r.prepared (is_zero code z) (body ∙ v))), (λ z v. r.completed (is_zero code z) (body ∙ v)), (λ z v. r.aborted (is_zero code z) (body ∙ v))))
 
-  held_fine_by : (m : Master) (p : ℕ) (ns : List Entry) (b : Body) → MasterFine x parts h k m → AllOf (HeldFine x parts h m.epoch) ns → MasterFine x parts h k (held_by m p ns b)
+  held_fine_by : (m : Master) (p : ℕ) (ns : List TxnEntry) (b : Body) → MasterFine x parts h k m → AllOf (HeldFine x parts h m.epoch) ns → MasterFine x parts h k (held_by m p ns b)
   held_fine_by m p ns Ask f a = with_peer m (held_by m p ns Ask) p (after_ask (m.at p)) refl refl (λ _. refl) f (idle m.epoch p (m.at p) (after_ask (m.at p)) refl refl refl (f.peers p)) (discover_fine x parts h m.epoch m.begun ns m.jobs a f.jobs)
   held_fine_by m p ns (Ask_record y) f a = unmatch m p f
   held_fine_by m p ns (Claim w) f a = f
@@ -105,7 +106,7 @@ module _ (x : TxnId) (parts : List ℕ) (h : Past) (k : ℕ) where
   held_fine_by m p ns Plain f a = f
   held_fine_by m p ns Malformed f a = f
 
-  held_fine : (m : Master) (p : ℕ) (ns : List Entry) (w : Option Waiting) → MasterFine x parts h k m → AllOf (HeldFine x parts h m.epoch) ns → MasterFine x parts h k (held_told m p ns w)
+  held_fine : (m : Master) (p : ℕ) (ns : List TxnEntry) (w : Option Waiting) → MasterFine x parts h k m → AllOf (HeldFine x parts h m.epoch) ns → MasterFine x parts h k (held_told m p ns w)
   held_fine m p ns None f a = f
   held_fine m p ns (Some o) f a = held_fine_by m p ns o.body f a
 

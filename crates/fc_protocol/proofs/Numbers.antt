@@ -6,13 +6,14 @@ use Rattle.fc_protocol.specs.Core.{start}
 use Rattle.fc_protocol.specs.ElementMachine.{Circumstance}
 use Rattle.fc_protocol.specs.Jobs.{all_settled, Job}
 use Rattle.fc_protocol.specs.MasterMachine.{Refusal, begin_refusal, plain_refusal, give_up_refusal, unread_told, Waiting, Master, new_master, at_put, due, sends_one, sends_all, heard, matches, coded, by_epoch, depose, is_lower, unmatched, held_by, held_told, record_by, record_told, begins, gives_up, decide_all, finish, Speaks}
-use Rattle.fc_protocol.specs.Messages.{Malformed, Beat, Unread, sent, same, Entry, Body, Claim, Sot, Mot, Eot, Trcomp, Abt, Ask, Ask_record, Plain, Message, Setup, Request, Reply, Holds, Tells, Other_up, Other_down, Sent}
+use Rattle.fc_protocol.specs.Messages.{Malformed, Beat, Unread, sent, same, Body, Claim, Sot, Mot, Eot, Trcomp, Abt, Ask, Ask_record, Plain, Message, Setup, Request, Reply, Holds, Tells, Other_up, Other_down, Sent}
 use Rattle.fc_protocol.specs.Trace.{Fact, Opened_at, Prepared_at, Settled_at}
 use Rattle.fc_protocol.specs.WorldSteps.{Open, Give_up, Network, controller_of, World, Begun, Step, Deliver, Moment, Start, Stop, Begin, Change, Resend, murmurs, says, numbered, may_start, begin_by, give_up_by, change_by, change_at, first_world, with_begun, speaks, to_master, delivered, delivers, starts, begin_at, give_up_at, resend_at, happens, run}
-use Rattle.fc_protocol.specs.declared.ids.TxnId.{TxnId}
+use Rattle.fc_protocol.specs.declared.answers.TxnEntry.{TxnEntry}
 use Rattle.fc_protocol.specs.declared.states.Decision.{Decision}
 use Rattle.fc_protocol.specs.declared.states.Decision.TheVariants.{Complete}
 use Rattle.fc_protocol.specs.declared.states.Seen.{Seen}
+use Rattle.fc_base.specs.Ids.{Txn}
 use Rattle.fc_protocol.proofs.Puts.{put_here, both_first, both_second}
 use Rattle.fc_protocol.proofs.Basics.{In, both, cond_true, same_true, same_of, put_rest}
 use Rattle.fc_protocol.proofs.Facts.{Past, Lives, Named}
@@ -26,7 +27,7 @@ coded_alike : (m : Master) (p code : ℕ) (o : Option Waiting) → Alike m (code
 coded_alike m p code None = (refl, refl)
 coded_alike m p code (Some o) = (refl, refl)
 
-held_by_alike : (m : Master) (p : ℕ) (ns : List Entry) (b : Body) → Alike m (held_by m p ns b)
+held_by_alike : (m : Master) (p : ℕ) (ns : List TxnEntry) (b : Body) → Alike m (held_by m p ns b)
 held_by_alike m p ns Ask = (refl, refl)
 held_by_alike m p ns (Ask_record y) = (refl, refl)
 held_by_alike m p ns (Claim w) = (refl, refl)
@@ -38,7 +39,7 @@ held_by_alike m p ns (Abt y) = (refl, refl)
 held_by_alike m p ns Plain = (refl, refl)
 held_by_alike m p ns Malformed = (refl, refl)
 
-held_alike : (m : Master) (p : ℕ) (ns : List Entry) (o : Option Waiting) → Alike m (held_told m p ns o)
+held_alike : (m : Master) (p : ℕ) (ns : List TxnEntry) (o : Option Waiting) → Alike m (held_told m p ns o)
 held_alike m p ns None = (refl, refl)
 held_alike m p ns (Some o) = held_by_alike m p ns o.body
 
@@ -171,8 +172,8 @@ begin_by_ids w k ps changes m None i e =
       numbers = λ a u v. ⊎_elim (λ s. let t : a.txn.number ≡ m.begun + 1 = ap (λ (z : Begun). z.txn.number) s in omega arith) (λ s. let t : a.txn.number ≤ m.begun = f.numbers a s v in omega arith) u;
     } in
     let clash = λ (a : Begun) (u : In a w.begun) (s : a.txn ≡ b.txn).
-    let low : a.txn.number ≤ m.begun = f.numbers a u (ap (λ (v : TxnId). v.epoch) s) in
-    let now : a.txn.number ≡ m.begun + 1 = ap (λ (v : TxnId). v.number) s in
+    let low : a.txn.number ≤ m.begun = f.numbers a u (ap (λ (v : Txn). v.epoch) s) in
+    let now : a.txn.number ≡ m.begun + 1 = ap (λ (v : Txn). v.number) s in
     absurd {A = ⊥} (omega arith) in
     record {
       lives = put_rest (LifeNumbered (at_start (with_begun w b))) w.masters k (Some r.master) (alike_numbered (at_start (with_begun w b)) k n r.master (finish_alike k n) g) (λ j d. others_on w b k j (w.masters j) f.life d (i.lives j));
@@ -185,11 +186,11 @@ begin_ids : (w : World) (k : ℕ) (ps : List ℕ) (changes : ℕ → ℕ) (o : O
 begin_ids w k ps changes None i e = i
 begin_ids w k ps changes (Some m) i e = begin_by_ids w k ps changes m (begin_refusal m ps changes) i e
 
-give_up_by_ids : (w : World) (k : ℕ) (y : TxnId) (m : Master) (r : Option Refusal) → Ids w → w.masters k ≡ Some m → Ids (give_up_by w k y m r)
+give_up_by_ids : (w : World) (k : ℕ) (y : Txn) (m : Master) (r : Option Refusal) → Ids w → w.masters k ≡ Some m → Ids (give_up_by w k y m r)
 give_up_by_ids w k y m (Some r) i e = i
 give_up_by_ids w k y m None i e = speaks_ids w k m (gives_up m y) _ [] i e (refl, refl) (finish_alike k (gives_up m y))
 
-give_up_ids : (w : World) (k : ℕ) (y : TxnId) (o : Option Master) → Ids w → w.masters k ≡ o → Ids (give_up_at w k y o)
+give_up_ids : (w : World) (k : ℕ) (y : Txn) (o : Option Master) → Ids w → w.masters k ≡ o → Ids (give_up_at w k y o)
 give_up_ids w k y None i e = i
 give_up_ids w k y (Some m) i e = give_up_by_ids w k y m (give_up_refusal m y) i e
 
@@ -227,11 +228,11 @@ first_ids : (net : Network) → Ids (first_world net)
 first_ids net = record { lives = λ _. tt; owners = λ b i. absurd i; once = λ a b i. absurd i }
 
 -- the participants that x was begun with
-abbrev parts_of : TxnId → List Begun → List ℕ
+abbrev parts_of : Txn → List Begun → List ℕ
 parts_of x [] = []
 parts_of x (b ∷ bs) = cond (same x b.txn) b.parts (parts_of x bs)
 
-parts_in : (x : TxnId) (bs : List Begun) (b : Begun) → In b bs → b.txn ≡ x → (a : Begun) × In a bs × (a.txn ≡ x) × (a.parts ≡ parts_of x bs)
+parts_in : (x : Txn) (bs : List Begun) (b : Begun) → In b bs → b.txn ≡ x → (a : Begun) × In a bs × (a.txn ≡ x) × (a.parts ≡ parts_of x bs)
 parts_in x [] b i e = absurd i
 parts_in x (a ∷ bs) b i e =
     ⊎_elim (λ s. (a, inl refl, sym (same_true x a.txn s), sym (cond_true _ a.parts _ s)))
@@ -242,7 +243,7 @@ parts_in x (a ∷ bs) b i e =
     false_parts true v w e = cc
     false_parts false v w e = refl
 
-named : (w : World) (x : TxnId) → Ids w → Named x (parts_of x w.begun) w.begun
+named : (w : World) (x : Txn) → Ids w → Named x (parts_of x w.begun) w.begun
 named w x i b n e = let r = parts_in x w.begun b n e in i.once b r.0 n r.1 (e ∙ sym r.2) ∙ r.3
 
 -- a job that is settled whole is settled at each participant
@@ -259,7 +260,7 @@ module _ (net : Network) (ss : List Step) where
   abbrev pub world : World
   world = run ss (first_world net)
 
-  goes : (x : TxnId) → Goes x (parts_of x world.begun) world
+  goes : (x : Txn) → Goes x (parts_of x world.begun) world
   goes x = run_tied x (parts_of x world.begun) ss (first_world net) start (named world x (run_ids ss (first_world net) (first_ids net))) (first_tied x (parts_of x world.begun) net)
 
   pub agree_law : Agree world.facts

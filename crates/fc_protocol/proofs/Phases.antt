@@ -3,17 +3,18 @@ use Rattle.std.proofs.Common.{◌≡◌, ℕ, ◌==◌, ◌&&◌, not, Bool, tru
 use Rattle.fc_protocol.specs.Collections.{among}
 use Rattle.fc_protocol.specs.Core.{Element, Core, settled, to}
 use Rattle.fc_protocol.specs.ElementMachine.{Circumstance, acts, Acts, after, idles, admits, rises_above}
-use Rattle.fc_protocol.specs.Messages.{same, is_name, Entry, Body, Claim, Sot, Mot, Eot, Trcomp, Abt, Malformed, Plain, Ask, Ask_record}
+use Rattle.fc_protocol.specs.Messages.{same, is_name, Body, Claim, Sot, Mot, Eot, Trcomp, Abt, Malformed, Plain, Ask, Ask_record}
 use Rattle.fc_protocol.specs.Phases.{Turn, keeps, becomes, starting, continuing, preparing, settling, entering, failed, with_rest, opening, adding, aborting}
 use Rattle.fc_protocol.specs.Records.{state_of, seen, noted, is_held, any_held, is_full}
 use Rattle.fc_protocol.specs.Trace.{Opens, Settles, Fact, Opened_at, facts_of}
-use Rattle.fc_protocol.specs.declared.ids.TxnId.{TxnId}
+use Rattle.fc_protocol.specs.declared.answers.TxnEntry.{TxnEntry}
 use Rattle.fc_protocol.specs.declared.states.Decision.{Decision}
 use Rattle.fc_protocol.specs.declared.states.Decision.TheVariants.{Complete, Abort}
 use Rattle.fc_protocol.specs.declared.states.Seen.{Seen}
 use Rattle.fc_protocol.specs.declared.states.Seen.TheVariants.{Absent, Started, Prepared, Completed, Aborted}
 use Rattle.fc_protocol.specs.declared.states.TxnState.{TxnState}
 use Rattle.fc_protocol.specs.declared.states.TxnState.TheVariants.{Started as RecordStarted, Prepared as RecordPrepared, Completed as RecordCompleted, Aborted as RecordAborted}
+use Rattle.fc_base.specs.Ids.{Txn}
 use Rattle.fc_protocol.proofs.Puts.{both_first, both_second}
 use Rattle.fc_protocol.proofs.Basics.{AllOf, both, same_true, same_of, put_other}
 use Rattle.fc_protocol.proofs.Moves.{over, Told, note, Turned, Turns, turned_none, turned_then, opens, fails, prepares, settles, tells}
@@ -44,7 +45,7 @@ continuing_good (Some RecordPrepared) e = absurd (omega arith)
 continuing_good (Some RecordCompleted) e = absurd (omega arith)
 continuing_good (Some RecordAborted) e = absurd (omega arith)
 
-module _ (x : TxnId) (parts : List ℕ) where
+module _ (x : Txn) (parts : List ℕ) where
   -- from a core with state s at p, moves to what the turn says, with its facts
   pub record Row (c : Core) (p : ℕ) (t : Turn) (s : Option TxnState) (ps : List ℕ) (fs : List Fact) : Type 0 where
     pub core : Core
@@ -250,7 +251,7 @@ aborting_good true true None e = absurd (omega arith)
 aborting_good true false None e = refl
 aborting_good named full (Some s) e = settling_good Abort (Some s) e
 
-module _ (x : TxnId) (parts : List ℕ) (h : Past) (fs : List Fact) where
+module _ (x : Txn) (parts : List ℕ) (h : Past) (fs : List Fact) where
   abbrev pub own : ℕ
   own = x.epoch
 
@@ -275,14 +276,14 @@ module _ (x : TxnId) (parts : List ℕ) (h : Past) (fs : List Fact) where
   abbrev Aims : Body → Seen → Type 0
   Aims b s = ((b ≡ Eot x) × (s ≡ Prepared)) ⊎ (((b ≡ Trcomp x) × (s ≡ Completed)) ⊎ ((b ≡ Abt x) × (s ≡ Aborted)))
 
-  pub record Given (p : ℕ) (ns : List Entry) : Type 0 where
+  pub record Given (p : ℕ) (ns : List TxnEntry) : Type 0 where
     pub before : Before x parts h.core fs
     pub state : seen (state_of x ns) ≡ (h.core.at p).state
     pub entries : AllOf (EntryFine x parts h (epoch_at p)) ns
     pub single : Single x parts ns
 
   -- by what the phase's turn is, where it is of x or not
-  acted : (p : ℕ) (b : Body) (t : Turn) (y : TxnId) (ps : List ℕ) (ns : List Entry) → Given p ns
+  acted : (p : ℕ) (b : Body) (t : Turn) (y : Txn) (ps : List ℕ) (ns : List TxnEntry) → Given p ns
       → (y ≡ x → Row x parts h.core p t (state_of x ns) ps fs) → Fits x parts h (epoch_at p) y ps t.new (state_of y ns) → (t.code ≡ 0 → (s : Seen) → Aims b s → (y ≡ x) × (seen (or_else t.new (state_of x ns)) ≡ s)) → Acted p b (after p t y ps ns)
   acted p b t y ps ns i row f g =
       ⊎_elim (λ k.
@@ -304,12 +305,12 @@ module _ (x : TxnId) (parts : List ℕ) (h : Past) (fs : List Fact) where
             subst (λ n. Told u.0.notes (note n p Prepared)) r.epoch (subst (λ n. Told u.0.notes (note (r.core.at p).epoch p n)) (sym r.state ∙ v.1) u.3);
         completed = λ c e. now c Completed (inr (inl (e, refl)));
         aborted = λ c e. now c Aborted (inr (inr (e, refl)));
-        marks = λ q. subst (λ (v : TxnId). Marks x parts (facts_of p v ps t.events ++ fs) q (u.0.at q)) z
+        marks = λ q. subst (λ (v : Txn). Marks x parts (facts_of p v ps t.events ++ fs) q (u.0.at q)) z
             (⊎_elim (λ n. let w : q ≡ p = eqb-true q p n in subst (λ v. Marks x parts (facts_of p x ps t.events ++ fs) v (u.0.at v)) (sym w) (subst (Marks x parts (facts_of p x ps t.events ++ fs) p) (sym same) r.marks))
             (λ n. let w = λ (v : q ≡ p). let c : true ≡ false = sym (eq-eqb q p v) ∙ n in absurd {A = ⊥} cc in
             marks_apart x parts fs p q x ps t.events (u.0.at q) (λ v _. w v) (subst (Marks x parts fs q) (sym (tt'.at q ∙ put_other h.core.at p (u.0.at p) q w)) (i.before.marks q)))
             (both (q == p)));
-        good = subst (λ (v : TxnId). GoodFacts x parts (facts_of p v ps t.events ++ fs)) z r.good;
+        good = subst (λ (v : Txn). GoodFacts x parts (facts_of p v ps t.events ++ fs)) z r.good;
       })
       (λ k.
       let n = λ (v : y ≡ x). let c : true ≡ false = sym (same_of x y (sym v)) ∙ k in absurd {A = ⊥} cc in
@@ -327,10 +328,10 @@ module _ (x : TxnId) (parts : List ℕ) (h : Past) (fs : List Fact) where
         good = good_apart x parts fs p y ps t.events n i.before.good;
       }) (both (same x y))
 
-  fits_none : (p : ℕ) (y : TxnId) (ps : List ℕ) (new t : Option TxnState) → Lively new t → (t ≡ None → new ≡ None) → Fits x parts h (epoch_at p) y ps new t
+  fits_none : (p : ℕ) (y : Txn) (ps : List ℕ) (new t : Option TxnState) → Lively new t → (t ≡ None → new ≡ None) → Fits x parts h (epoch_at p) y ps new t
   fits_none p y ps new t l n s e = (l s e, λ a. let f : None ≡ Some s = sym (n a) ∙ e in cc)
 
-  idles_acted : (p : ℕ) (b : Body) (ns : List Entry) (code : ℕ) → Given p ns → (b ≡ Eot x → ⊥) → (b ≡ Trcomp x → ⊥) → (b ≡ Abt x → ⊥) → Acted p b (idles ns code)
+  idles_acted : (p : ℕ) (b : Body) (ns : List TxnEntry) (code : ℕ) → Given p ns → (b ≡ Eot x → ⊥) → (b ≡ Trcomp x → ⊥) → (b ≡ Abt x → ⊥) → Acted p b (idles ns code)
   idles_acted p b ns code i u v w = record {
     core = h.core;
     turned = turned_none own parts h.core p;
@@ -345,7 +346,7 @@ module _ (x : TxnId) (parts : List ℕ) (h : Past) (fs : List Fact) where
     good = i.before.good;
   }
 
-  pub acted_of : (p e : ℕ) (o : Circumstance) (b : Body) (ns : List Entry) → e ≡ epoch_at p → Given p ns → Means x parts h (epoch_at p) p b → Acted p b (acts p e o b ns)
+  pub acted_of : (p e : ℕ) (o : Circumstance) (b : Body) (ns : List TxnEntry) → e ≡ epoch_at p → Given p ns → Means x parts h (epoch_at p) p b → Acted p b (acts p e o b ns)
   acted_of p e o (Sot y ps) ns at i m =
       let fits = admits p e y ps in
       let part = among p ps && (rises_above 0 ps && nat_le (length ps) 64) in

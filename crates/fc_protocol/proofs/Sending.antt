@@ -5,9 +5,9 @@ use Rattle.fc_protocol.specs.Collections.{among, or_next}
 use Rattle.fc_protocol.specs.Jobs.{Job, own_body, decision_body, body_by, needs, first_need}
 use Rattle.fc_protocol.specs.MasterMachine.{unspent, wanted, last_count, Waiting, Peer, Master, due, count_of, stamp_of, sending, at_put}
 use Rattle.fc_protocol.specs.Messages.{Malformed, Stamp, Body, Claim, Sot, Mot, Eot, Trcomp, Abt, Ask, Ask_record, Plain, is_query, Request, Sent, sent, is_claim}
-use Rattle.fc_protocol.specs.declared.ids.TxnId.{TxnId}
 use Rattle.fc_protocol.specs.declared.states.Decision.{Decision}
 use Rattle.fc_protocol.specs.declared.states.Decision.TheVariants.{Complete, Abort}
+use Rattle.fc_base.specs.Ids.{Txn}
 use Rattle.fc_protocol.proofs.Basics.{In, in_left, in_right, in_either, all_in, cond_true, cond_false, both, some_same, put_rest}
 use Rattle.fc_protocol.proofs.Facts.{Past, Asked, Unique, Means, RequestFine, SentFine, JobFine, JobsFine, PeerFine, MasterFine, Later, jobs_on}
 use Rattle.fc_protocol.proofs.Jobs.{once_found}
@@ -28,7 +28,7 @@ first_job : (js : List Job) (p : ℕ) (b : Body) → first_need js p ≡ Some b 
 first_job [] p b e = cc
 first_job (j ∷ js) p b e = ⊎_elim (λ k. (j, inl refl, k)) (λ k. let r = first_job js p b k in (r.0, inr r.1, r.2)) (or_either (needs j p) (first_need js p) b e)
 
-module _ (x : TxnId) (parts : List ℕ) (h : Past) where
+module _ (x : Txn) (parts : List ℕ) (h : Past) where
   abbrev pub Due : ℕ → ℕ → Body → Type 0
   Due e p b = Means x parts h e p b × (is_claim b ≡ true → b ≡ Claim e)
 
@@ -105,7 +105,7 @@ reaches true false m l k = omega arith
 reaches false true m l k = omega arith
 reaches false false m l k = omega arith
 
-module _ (x : TxnId) (parts : List ℕ) (h : Past) (k : ℕ) (m : Master) (p : ℕ) (b : Body) where
+module _ (x : Txn) (parts : List ℕ) (h : Past) (k : ℕ) (m : Master) (p : ℕ) (b : Body) where
   abbrev the_stamp : Stamp
   the_stamp = stamp_of m.epoch b (m.at p)
 

@@ -6,7 +6,7 @@ use Rattle.fc_protocol.specs.MasterMachine.{Master}
 use Rattle.fc_protocol.specs.Messages.{Beat, Unread, Stamp, Body, Message, Setup, Request, Reply, Holds, Tells, Other_up, Other_down, Sent, sent}
 use Rattle.fc_protocol.specs.Trace.{Fact}
 use Rattle.fc_protocol.specs.WorldSteps.{World, spoken, to_element}
-use Rattle.fc_protocol.specs.declared.ids.TxnId.{TxnId}
+use Rattle.fc_base.specs.Ids.{Txn}
 use Rattle.fc_protocol.proofs.Basics.{In, in_left, in_either, put_other, put_rest}
 use Rattle.fc_protocol.proofs.Facts.{Past, past, Unique, SentFine, ElFine, LifeFine, Tied, Later, Apart, message_on, el_on, master_on}
 use Rattle.fc_protocol.proofs.Hearing.{on, later_turned, SaysFine, Went}
@@ -18,7 +18,7 @@ pub unique_quiet : (ss ts : List Sent) → Unique ss → Quiet ts → Unique (ss
 unique_quiet ss ts u q p j k s a b i l e =
     ⊎_elim (λ m. ⊎_elim (λ n. u p j k s a b m n e) (λ n. absurd (q p k s b n)) (in_either _ ss ts l)) (λ m. absurd (q p j s a m)) (in_either _ ss ts i)
 
-module _ (x : TxnId) (parts : List ℕ) where
+module _ (x : Txn) (parts : List ℕ) where
   pub later_trans : (f g h : Past) → Later x parts f g → Later x parts g h → Later x parts f h
   later_trans f g h a b = record {
     decided = λ e d i. b.decided e d (a.decided e d i);

@@ -2,16 +2,16 @@
 use Rattle.std.proofs.Common.{◌≡◌, ℕ, ◌==◌, true, false, List, [], ◌∷◌, ◌++◌, Option, Some, None, ◌⊎◌, inl, inr, ⊎_elim, refl, sym, ap, ◌∙◌, subst, eqb-true, eq-eqb}
 use Rattle.fc_protocol.specs.Collections.{among}
 use Rattle.fc_protocol.specs.Core.{Element, Core, raised}
-use Rattle.fc_protocol.specs.Messages.{Entry}
 use Rattle.fc_protocol.specs.Records.{seen, state_of}
 use Rattle.fc_protocol.specs.Trace.{Event, Opens, Prepares, Settles, Fact, Opened_at, Prepared_at, Settled_at, Claimed_at, fact_of, facts_of, undone_facts}
-use Rattle.fc_protocol.specs.declared.ids.TxnId.{TxnId}
+use Rattle.fc_protocol.specs.declared.answers.TxnEntry.{TxnEntry}
 use Rattle.fc_protocol.specs.declared.states.Decision.{Decision}
 use Rattle.fc_protocol.specs.declared.states.Decision.TheVariants.{Complete, Abort}
 use Rattle.fc_protocol.specs.declared.states.Seen.{Seen}
 use Rattle.fc_protocol.specs.declared.states.Seen.TheVariants.{Absent, Started, Prepared, Completed, Aborted}
 use Rattle.fc_protocol.specs.declared.states.TxnState.{TxnState}
 use Rattle.fc_protocol.specs.declared.states.TxnState.TheVariants.{Started as RecordStarted, Prepared as RecordPrepared, Completed as RecordCompleted, Aborted as RecordAborted}
+use Rattle.fc_base.specs.Ids.{Txn}
 use Rattle.fc_protocol.proofs.Keeps.{ready}
 use Rattle.fc_protocol.proofs.Basics.{In, in_left, in_right, in_either, both, put_other}
 use Rattle.fc_protocol.proofs.Moves.{Reached, Turned, over, raised_over}
@@ -34,7 +34,7 @@ done_same Abort Abort e = refl
 pub not_over : {P : Type 0} (s : Seen) (d : Decision) → over s ≡ false → s ≡ done d → P
 not_over s d o e = let u : false ≡ true = sym o ∙ ap over e ∙ done_over d in cc
 
-module _ (x : TxnId) (parts : List ℕ) where
+module _ (x : Txn) (parts : List ℕ) where
   pub record Before (c : Core) (fs : List Fact) : Type 0 where
     pub reached : Reached x.epoch parts c
     pub marks : (q : ℕ) → Marks x parts fs q (c.at q)
@@ -84,12 +84,12 @@ module _ (x : TxnId) (parts : List ℕ) where
       (both (q == p))
 
   -- facts of another transaction, or of another element
-  fact_is : (p q : ℕ) (y : TxnId) (ps : List ℕ) (d : Decision) (e : Event) → Settled_at q x d ≡ fact_of p y ps e → (q ≡ p) × (x ≡ y)
+  fact_is : (p q : ℕ) (y : Txn) (ps : List ℕ) (d : Decision) (e : Event) → Settled_at q x d ≡ fact_of p y ps e → (q ≡ p) × (x ≡ y)
   fact_is p q y ps d Opens i = cc
   fact_is p q y ps d Prepares i = cc
   fact_is p q y ps d (Settles g) i = (cc, cc)
 
-  facts_are : (p q : ℕ) (y : TxnId) (ps : List ℕ) (d : Decision) (es : List Event) → In (Settled_at q x d) (facts_of p y ps es) → (q ≡ p) × (x ≡ y)
+  facts_are : (p q : ℕ) (y : Txn) (ps : List ℕ) (d : Decision) (es : List Event) → In (Settled_at q x d) (facts_of p y ps es) → (q ≡ p) × (x ≡ y)
   facts_are p q y ps d [] i = absurd i
   facts_are p q y ps d (e ∷ es) i = ⊎_elim (λ u. fact_is p q y ps d e u) (λ u. facts_are p q y ps d es u) i
 
@@ -101,15 +101,15 @@ module _ (x : TxnId) (parts : List ℕ) where
     ended = λ d i. in_right _ gs fs (m.ended d i);
   }
 
-  pub marks_apart : (fs : List Fact) (p q : ℕ) (y : TxnId) (ps : List ℕ) (es : List Event) (z : Element) → (q ≡ p → x ≡ y → ⊥) → Marks x parts fs q z → Marks x parts (facts_of p y ps es ++ fs) q z
+  pub marks_apart : (fs : List Fact) (p q : ℕ) (y : Txn) (ps : List ℕ) (es : List Event) (z : Element) → (q ≡ p → x ≡ y → ⊥) → Marks x parts fs q z → Marks x parts (facts_of p y ps es ++ fs) q z
   marks_apart fs p q y ps es z n m = marks_other fs (facts_of p y ps es) q z (λ d i. let u = facts_are p q y ps d es i in n u.0 u.1) m
 
-  fact_apart : (fs : List Fact) (p : ℕ) (y : TxnId) (ps : List ℕ) (e : Event) → (y ≡ x → ⊥) → GoodFact x parts fs (fact_of p y ps e)
+  fact_apart : (fs : List Fact) (p : ℕ) (y : Txn) (ps : List ℕ) (e : Event) → (y ≡ x → ⊥) → GoodFact x parts fs (fact_of p y ps e)
   fact_apart fs p y ps Opens n = λ i. absurd (n i)
   fact_apart fs p y ps Prepares n = tt
   fact_apart fs p y ps (Settles d) n = λ i. absurd (n i)
 
-  pub good_apart : (fs : List Fact) (p : ℕ) (y : TxnId) (ps : List ℕ) (es : List Event) → (y ≡ x → ⊥) → GoodFacts x parts fs → GoodFacts x parts (facts_of p y ps es ++ fs)
+  pub good_apart : (fs : List Fact) (p : ℕ) (y : Txn) (ps : List ℕ) (es : List Event) → (y ≡ x → ⊥) → GoodFacts x parts fs → GoodFacts x parts (facts_of p y ps es ++ fs)
   good_apart fs p y ps [] n g = g
   good_apart fs p y ps (e ∷ es) n g = (fact_apart (facts_of p y ps es ++ fs) p y ps e n, good_apart fs p y ps es n g)
 
@@ -129,7 +129,7 @@ module _ (x : TxnId) (parts : List ℕ) where
   raised_done Completed d e = inr e
   raised_done Aborted d e = inr e
 
-  pub claim_marks : (fs : List Fact) (p e : ℕ) (ns : List Entry) (y z : Element) → Single x parts ns → seen (state_of x ns) ≡ y.state → z.state ≡ raised y.state → z.prepared ≡ y.prepared → Marks x parts fs p y → Marks x parts ((Claimed_at p e ∷ undone_facts p ns) ++ fs) p z
+  pub claim_marks : (fs : List Fact) (p e : ℕ) (ns : List TxnEntry) (y z : Element) → Single x parts ns → seen (state_of x ns) ≡ y.state → z.state ≡ raised y.state → z.prepared ≡ y.prepared → Marks x parts fs p y → Marks x parts ((Claimed_at p e ∷ undone_facts p ns) ++ fs) p z
   claim_marks fs p e ns y z s i r b m = record {
     opened = λ u. inr (in_right _ (undone_facts p ns) fs (m.opened (raised_open y.state (ap is_open (sym r) ∙ u))));
     prepared = λ u. inr (in_right _ (undone_facts p ns) fs (m.prepared (sym b ∙ u)));
@@ -139,8 +139,8 @@ module _ (x : TxnId) (parts : List ℕ) where
         (λ v. inr (in_right _ (undone_facts p ns) fs (m.ended d v))) (raised_done y.state d (sym r ∙ u));
   }
 
-  pub claim_other : (fs : List Fact) (p q e : ℕ) (ns : List Entry) (z : Element) → Single x parts ns → (q ≡ p → ⊥) → Marks x parts fs q z → Marks x parts ((Claimed_at p e ∷ undone_facts p ns) ++ fs) q z
+  pub claim_other : (fs : List Fact) (p q e : ℕ) (ns : List TxnEntry) (z : Element) → Single x parts ns → (q ≡ p → ⊥) → Marks x parts fs q z → Marks x parts ((Claimed_at p e ∷ undone_facts p ns) ++ fs) q z
   claim_other fs p q e ns z s n m = marks_other fs (Claimed_at p e ∷ undone_facts p ns) q z (λ d u. ⊎_elim (λ v. cc) (λ v. n (undone_only x parts p q d ns s v).0) u) m
 
-  pub claim_good : (fs : List Fact) (p e : ℕ) (ns : List Entry) (y : Element) → Single x parts ns → seen (state_of x ns) ≡ y.state → Marks x parts fs p y → GoodFacts x parts fs → GoodFacts x parts ((Claimed_at p e ∷ undone_facts p ns) ++ fs)
+  pub claim_good : (fs : List Fact) (p e : ℕ) (ns : List TxnEntry) (y : Element) → Single x parts ns → seen (state_of x ns) ≡ y.state → Marks x parts fs p y → GoodFacts x parts fs → GoodFacts x parts ((Claimed_at p e ∷ undone_facts p ns) ++ fs)
   claim_good fs p e ns y s i m g = (tt, undone_good x parts p ns fs s g (λ u d v. not_over y.state d (ap over (sym i ∙ ap seen u)) (m.settled d v)))

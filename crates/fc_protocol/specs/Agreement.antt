@@ -1,8 +1,6 @@
 -- What holds of a world however messages are lost, repeated and reordered and controllers stop and return. Lists of facts have the newest first. This profile's own.
 use Rattle.std.specs.Prelude.{◌≡◌, ℕ, true, List, [], ◌∷◌, ◌++◌, Option, Some, None}
-use Rattle.fc_protocol.specs.declared.ids.TxnId.{TxnId}
-use Rattle.fc_protocol.specs.declared.states.Decision.{Decision}
-use Rattle.fc_protocol.specs.declared.states.Decision.TheVariants.{Complete, Abort}
+use Rattle.fc_base.specs.Ids.{Txn}
 use Rattle.fc_protocol.specs.Collections.{In, among}
 use Rattle.fc_protocol.specs.Core.{Move, start, moves}
 use Rattle.fc_protocol.specs.Jobs.{Job, find, is_settled}
@@ -11,23 +9,25 @@ use Rattle.fc_protocol.specs.Messages.{Stamp, Request, Trcomp, Abt, sent}
 use Rattle.fc_protocol.specs.Records.{seen, state_of}
 use Rattle.fc_protocol.specs.Trace.{Fact, Opened_at, Prepared_at, Settled_at}
 use Rattle.fc_protocol.specs.WorldSteps.{World, Begun}
+use Rattle.fc_protocol.specs.declared.states.Decision.{Decision}
+use Rattle.fc_protocol.specs.declared.states.Decision.TheVariants.{Complete, Abort}
 
 -- no two elements settle one transaction differently
 abbrev pub Agree : List Fact → Type 0
-Agree fs = (x : TxnId) (p q : ℕ) (d g : Decision) → In (Settled_at p x d) fs → In (Settled_at q x g) fs → d ≡ g
+Agree fs = (x : Txn) (p q : ℕ) (d g : Decision) → In (Settled_at p x d) fs → In (Settled_at q x g) fs → d ≡ g
 
 -- an element settles a transaction at most once
 abbrev pub SettleOnce : List Fact → Type 0
-SettleOnce fs = (x : TxnId) (p : ℕ) (d g : Decision) (later before : List Fact) → fs ≡ later ++ Settled_at p x d ∷ before → In (Settled_at p x g) before → ⊥
+SettleOnce fs = (x : Txn) (p : ℕ) (d g : Decision) (later before : List Fact) → fs ≡ later ++ Settled_at p x d ∷ before → In (Settled_at p x g) before → ⊥
 
 -- before an element completes a transaction it has opened it, and before that every participant it was opened with has prepared
 abbrev pub Ready : List Fact → Type 0
 Ready fs =
-    (x : TxnId) (p : ℕ) (later before : List Fact) → fs ≡ later ++ Settled_at p x Complete ∷ before → (ps : List ℕ) × In (Opened_at p x ps) before × ((q : ℕ) → among q ps ≡ true → In (Prepared_at q x) before)
+    (x : Txn) (p : ℕ) (later before : List Fact) → fs ≡ later ++ Settled_at p x Complete ∷ before → (ps : List ℕ) × In (Opened_at p x ps) before × ((q : ℕ) → among q ps ≡ true → In (Prepared_at q x) before)
 
 -- all elements open a transaction with one list of participants
 abbrev pub OnePlan : List Fact → Type 0
-OnePlan fs = (x : TxnId) (p q : ℕ) (ps qs : List ℕ) → In (Opened_at p x ps) fs → In (Opened_at q x qs) fs → ps ≡ qs
+OnePlan fs = (x : Txn) (p q : ℕ) (ps qs : List ℕ) → In (Opened_at p x ps) fs → In (Opened_at q x qs) fs → ps ≡ qs
 
 -- what a master counts as settled at an element has been settled there, by the decision of the job
 abbrev pub Settled : World → Type 0
@@ -43,7 +43,7 @@ BegunOnce w = (a b : Begun) → In a w.begun → In b w.begun → a.txn ≡ b.tx
 
 -- what one life says of a transaction's end it never takes back
 abbrev pub SaysOnce : World → Type 0
-SaysOnce w = (x : TxnId) (p q j k : ℕ) (m n : Stamp) → In (sent p j (Request m (Trcomp x))) w.sent → In (sent q k (Request n (Abt x))) w.sent → m.life ≡ n.life → ⊥
+SaysOnce w = (x : Txn) (p q j k : ℕ) (m n : Stamp) → In (sent p j (Request m (Trcomp x))) w.sent → In (sent q k (Request n (Abt x))) w.sent → m.life ≡ n.life → ⊥
 
 abbrev pub decision_of : Option Job → Option Decision
 decision_of None = None
@@ -52,6 +52,6 @@ decision_of (Some j) = j.decision
 -- whatever has happened is, for each transaction, a list of moves of its core, which then tells each element's epoch and record and each running master's decision
 abbrev pub FollowsCore : World → Type 0
 FollowsCore w =
-    (x : TxnId) → (parts : List ℕ) × (ms : List Move)
+    (x : Txn) → (parts : List ℕ) × (ms : List Move)
     × ((p : ℕ) → (((moves x.epoch parts ms start).at p).epoch ≡ (w.at p).epoch) × (((moves x.epoch parts ms start).at p).state ≡ seen (state_of x (w.at p).records)))
     × ((k : ℕ) (m : Master) → w.masters k ≡ Some m → (moves x.epoch parts ms start).decided m.epoch ≡ decision_of (find x m.jobs))

@@ -1,6 +1,6 @@
 -- How one life of a controller decides a transaction by what all participants answered it. This profile's own.
 use Rattle.std.specs.Prelude.{ℕ, ◌&&◌, ◌||◌, ◌==◌, Bool, true, false, List, [], ◌∷◌, Option, Some, None, option_map, if◌then◌else◌}
-use Rattle.fc_protocol.specs.declared.ids.Answer.{Answer}
+use Rattle.fc_protocol.specs.declared.answers.Answer.{Answer}
 use Rattle.fc_protocol.specs.declared.states.Decision.{Decision}
 use Rattle.fc_protocol.specs.declared.states.Decision.TheVariants.{Complete, Abort}
 use Rattle.fc_protocol.specs.declared.states.Seen.{Seen}

@@ -1,23 +1,24 @@
 -- The machine of an element, as far as transactions go: fence, records, kept reply. Its messages are those of RFC 5810; the rules on epochs, sequences and records are this profile's own.
 use Rattle.std.specs.Prelude.{ℕ, ◌+◌, ◌^◌, ◌&&◌, ◌==◌, not, Bool, true, false, nat_lt, nat_le, List, [], ◌∷◌, length, Option, Some, None, if◌then◌else◌}
-use Rattle.fc_protocol.specs.declared.ids.TxnId.{TxnId}
+use Rattle.fc_base.specs.Ids.{Txn}
+use Rattle.fc_protocol.specs.Codes.{read_only, invalid_parameters, invalid_flags, not_supported}
+use Rattle.fc_protocol.specs.Collections.{among}
+use Rattle.fc_protocol.specs.Fence.{judge}
+use Rattle.fc_protocol.specs.Messages.{is_name, Stamp, Body, Claim, Sot, Mot, Eot, Trcomp, Abt, Malformed, Plain, Ask, Ask_record, claim_of, Message, Reply, Holds, Tells, Unread}
+use Rattle.fc_protocol.specs.Phases.{Turn, opening, adding, preparing, settling, aborting}
+use Rattle.fc_protocol.specs.Records.{state_of, seen, noted, held, any_held, is_full, all_undone}
+use Rattle.fc_protocol.specs.Trace.{Fact, Claimed_at, facts_of, undone_facts}
+use Rattle.fc_protocol.specs.declared.answers.TxnEntry.{TxnEntry}
+use Rattle.fc_protocol.specs.declared.states.Decision.TheVariants.{Complete}
 use Rattle.fc_protocol.specs.declared.verdict.Verdict.{Verdict}
 use Rattle.fc_protocol.specs.declared.verdict.Verdict.TheVariants.{Claim as Claims, Unclaimed, Stale, Again, Gap, Next}
-use Rattle.fc_protocol.specs.declared.states.Decision.TheVariants.{Complete}
-use Rattle.fc_protocol.specs.Collections.{among}
-use Rattle.fc_protocol.specs.Codes.{read_only, invalid_parameters, invalid_flags, not_supported}
-use Rattle.fc_protocol.specs.Messages.{is_name, Entry, Stamp, Body, Claim, Sot, Mot, Eot, Trcomp, Abt, Malformed, Plain, Ask, Ask_record, claim_of, Message, Reply, Holds, Tells, Unread}
-use Rattle.fc_protocol.specs.Fence.{judge}
-use Rattle.fc_protocol.specs.Records.{state_of, seen, noted, held, any_held, is_full, all_undone}
-use Rattle.fc_protocol.specs.Phases.{Turn, opening, adding, preparing, settling, aborting}
-use Rattle.fc_protocol.specs.Trace.{Fact, Claimed_at, facts_of, undone_facts}
 
 pub record ElementState : Type 0 where
   pub epoch : ℕ  -- 0 where no controller has claimed it
   pub master : ℕ
   pub sequence : ℕ  -- of the last Config of its master that was taken
   pub kept : Option Message  -- the reply to that Config, if there was one
-  pub records : List Entry
+  pub records : List TxnEntry
   pub ce : ℕ  -- the controller that may change it while it is unclaimed, then the master
   pub last_ce : ℕ  -- the one before
 
@@ -47,22 +48,22 @@ takes_part p ps = among p ps && (rises_above 0 ps && nat_le (length ps) 64)
 
 -- the records after a phase, its code, and what has happened, the newest first
 pub record Acts : Type 0 where
-  pub records : List Entry
+  pub records : List TxnEntry
   pub code : ℕ
   pub facts : List Fact
 
-abbrev pub after : ℕ → Turn → TxnId → List ℕ → List Entry → Acts
+abbrev pub after : ℕ → Turn → Txn → List ℕ → List TxnEntry → Acts
 after p t x ps ns = record { records = noted x ps t.new ns; code = t.code; facts = facts_of p x ps t.events }
 
-abbrev pub idles : List Entry → ℕ → Acts
+abbrev pub idles : List TxnEntry → ℕ → Acts
 idles ns code = record { records = ns; code = code; facts = [] }
 
 -- whether an element p of this epoch takes a transaction with these participants
-abbrev pub admits : ℕ → ℕ → TxnId → List ℕ → Bool
+abbrev pub admits : ℕ → ℕ → Txn → List ℕ → Bool
 admits p epoch x ps = x.epoch == epoch && (not (x.number == 0) && takes_part p ps)
 
 -- what an element p of this epoch does with the next Config of its master; a plain one has to wait while a transaction is held
-abbrev pub acts : ℕ → ℕ → Circumstance → Body → List Entry → Acts
+abbrev pub acts : ℕ → ℕ → Circumstance → Body → List TxnEntry → Acts
 acts p epoch c (Claim w) ns = idles ns (if any_held ns then invalid_flags else read_only)
 acts p epoch c (Sot x ps) ns = after p (opening (admits p epoch x ps) (any_held ns) (is_full ns) c.rest (state_of x ns)) x ps ns
 acts p epoch c (Mot x) ns = after p (adding c.rest (state_of x ns)) x [] ns

@@ -1,17 +1,18 @@
 -- The jobs of one life of a controller: the transactions that it drives to their end. This profile's own.
 use Rattle.std.specs.Prelude.{ℕ, ◌+◌, ◌&&◌, ◌||◌, ◌==◌, Bool, true, false, not, nat_le, List, [], ◌∷◌, ◌++◌, map, Option, Some, None, is_none, is_some, if◌then◌else◌}
-use Rattle.fc_protocol.specs.declared.ids.TxnId.{TxnId}
-use Rattle.fc_protocol.specs.declared.ids.Answer.{Answer}
+use Rattle.fc_base.specs.Ids.{Txn}
+use Rattle.fc_protocol.specs.Collections.{among, put, or_next}
+use Rattle.fc_protocol.specs.Decide.{decide, is_completed, is_aborted}
+use Rattle.fc_protocol.specs.Messages.{same, Body, Claim, Sot, Mot, Eot, Trcomp, Abt, Malformed, Plain, Ask, Ask_record}
+use Rattle.fc_protocol.specs.declared.answers.Answer.{Answer}
+use Rattle.fc_protocol.specs.declared.answers.TxnEntry.{TxnEntry}
 use Rattle.fc_protocol.specs.declared.states.Decision.{Decision}
 use Rattle.fc_protocol.specs.declared.states.Decision.TheVariants.{Complete, Abort}
 use Rattle.fc_protocol.specs.declared.states.Seen.{Seen}
 use Rattle.fc_protocol.specs.declared.states.Seen.TheVariants.{Prepared, Aborted}
-use Rattle.fc_protocol.specs.Collections.{among, put, or_next}
-use Rattle.fc_protocol.specs.Decide.{decide, is_completed, is_aborted}
-use Rattle.fc_protocol.specs.Messages.{same, Entry, Body, Claim, Sot, Mot, Eot, Trcomp, Abt, Malformed, Plain, Ask, Ask_record}
 
 pub record Job : Type 0 where
-  pub txn : TxnId
+  pub txn : Txn
   pub mine : Bool  -- this life began it; else it was found at an element
   pub parts : List ℕ
   pub changes : ℕ → ℕ  -- how many changes there are for each participant of an own job
@@ -21,22 +22,22 @@ pub record Job : Type 0 where
   pub settled : ℕ → Bool
   pub stuck : ℕ → Bool  -- the participant has answered the decision with a code other than 0
 
-abbrev pub new_job : TxnId → List ℕ → (ℕ → ℕ) → Job
+abbrev pub new_job : Txn → List ℕ → (ℕ → ℕ) → Job
 new_job x ps changes = record { txn = x; mine = true; parts = ps; changes = changes; done = λ _. 0; answers = λ _. None; decision = None; settled = λ _. false; stuck = λ _. false }
 
-abbrev pub recovered : Entry → Job
-recovered n = record { txn = n.txn; mine = false; parts = n.parts; changes = λ _. 0; done = λ _. 0; answers = λ _. None; decision = None; settled = λ _. false; stuck = λ _. false }
+abbrev pub recovered : TxnEntry → Job
+recovered n = record { txn = n.txn; mine = false; parts = n.participants; changes = λ _. 0; done = λ _. 0; answers = λ _. None; decision = None; settled = λ _. false; stuck = λ _. false }
 
 -- the first job of x
-abbrev pub find : TxnId → List Job → Option Job
+abbrev pub find : Txn → List Job → Option Job
 find x [] = None
 find x (j ∷ js) = if same x j.txn then Some j else find x js
 
-abbrev pub on_job : TxnId → (Job → Job) → List Job → List Job
+abbrev pub on_job : Txn → (Job → Job) → List Job → List Job
 on_job x f js = map (λ j. if same x j.txn then f j else j) js
 
 -- each transaction that an element holds, and for which there is no job, becomes one
-abbrev pub discover : List Entry → List Job → List Job
+abbrev pub discover : List TxnEntry → List Job → List Job
 discover [] js = js
 discover (n ∷ ns) js = discover ns (if is_some (find n.txn js) then js else js ++ recovered n ∷ [])
 
@@ -72,7 +73,7 @@ decided_job e None j = with_decision j (decides_job e j)
 decided_job e (Some d) j = j
 
 -- the life that began the transaction gives it up
-abbrev pub given_up : TxnId → Job → Job
+abbrev pub given_up : Txn → Job → Job
 given_up x j = if same x j.txn && (j.mine && is_none j.decision) then record j { decision = Some Abort } else j
 
 -- What a participant needs
@@ -80,7 +81,7 @@ given_up x j = if same x j.txn && (j.mine && is_none j.decision) then record j {
 abbrev pub own_body : Job → ℕ → Body
 own_body j p = if j.done p == 0 then Sot j.txn j.parts else (if nat_le (j.done p) (j.changes p) then Mot j.txn else Eot j.txn)
 
-abbrev pub decision_body : TxnId → Decision → Body
+abbrev pub decision_body : Txn → Decision → Body
 decision_body x Complete = Trcomp x
 decision_body x Abort = Abt x
 

@@ -1,12 +1,13 @@
 -- The machine of a master: one life of a controller, with one epoch. Claims, asks, jobs and counts are this profile's own; the messages are those of RFC 5810.
 use Rattle.std.specs.Prelude.{ℕ, ◌+◌, ◌-◌, ◌^◌, ◌&&◌, ◌||◌, ◌==◌, Bool, true, false, not, nat_lt, nat_le, max, List, [], ◌∷◌, ◌++◌, map, length, Option, Some, None, is_none, is_some, option_map, unwrap_or, if◌then◌else◌}
-use Rattle.fc_protocol.specs.declared.ids.TxnId.{TxnId}
+use Rattle.fc_base.specs.Ids.{Txn}
+use Rattle.fc_protocol.specs.Codes.{read_only}
+use Rattle.fc_protocol.specs.Collections.{among, put, or_next}
+use Rattle.fc_protocol.specs.Jobs.{Job, new_job, find, on_job, discover, is_settled, decided_job, given_up, first_need, answered_by, answer, by_code}
+use Rattle.fc_protocol.specs.Messages.{same, Stamp, same_stamp, Body, Claim, Sot, Mot, Eot, Trcomp, Abt, Malformed, Plain, Ask, Ask_record, is_query, is_claim, Message, Setup, Beat, Request, Reply, Holds, Tells, Unread, Other_up, Other_down, Sent, sent}
+use Rattle.fc_protocol.specs.declared.answers.TxnEntry.{TxnEntry}
 use Rattle.fc_protocol.specs.declared.states.Decision.{Decision}
 use Rattle.fc_protocol.specs.declared.states.Seen.{Seen}
-use Rattle.fc_protocol.specs.Collections.{among, put, or_next}
-use Rattle.fc_protocol.specs.Codes.{read_only}
-use Rattle.fc_protocol.specs.Messages.{same, Entry, Stamp, same_stamp, Body, Claim, Sot, Mot, Eot, Trcomp, Abt, Malformed, Plain, Ask, Ask_record, is_query, is_claim, Message, Setup, Beat, Request, Reply, Holds, Tells, Unread, Other_up, Other_down, Sent, sent}
-use Rattle.fc_protocol.specs.Jobs.{Job, new_job, find, on_job, discover, is_settled, decided_job, given_up, first_need, answered_by, answer, by_code}
 
 -- a message that was sent and waits for its response
 pub record Waiting : Type 0 where
@@ -140,7 +141,7 @@ abbrev pub after_ask : Peer → Peer
 after_ask y = record y { waits = None; doubt = false; answered = true }
 
 -- what the answer to an ask says, by what was asked
-abbrev pub held_by : Master → ℕ → List Entry → Body → Master
+abbrev pub held_by : Master → ℕ → List TxnEntry → Body → Master
 held_by m p ns (Claim w) = m
 held_by m p ns (Sot x ps) = m
 held_by m p ns (Mot x) = m
@@ -152,7 +153,7 @@ held_by m p ns Plain = m
 held_by m p ns Ask = record m { at = put m.at p (after_ask (m.at p)); jobs = discover ns m.jobs }
 held_by m p ns (Ask_record x) = at_put m p (unmatched (m.at p))
 
-abbrev pub held_told : Master → ℕ → List Entry → Option Waiting → Master
+abbrev pub held_told : Master → ℕ → List TxnEntry → Option Waiting → Master
 held_told m p ns None = m
 held_told m p ns (Some o) = held_by m p ns o.body
 
@@ -214,7 +215,7 @@ pub data Refusal : Type 0 where
   TooMany : ℕ → Refusal
   Stranger : ℕ → Refusal
   NotReady : ℕ → Refusal
-  Busy : ℕ → Option TxnId → Refusal
+  Busy : ℕ → Option Txn → Refusal
   Spent : Refusal
   Unknown : Refusal
   Decided : Decision → Refusal
@@ -224,7 +225,7 @@ refused_if true r = Some r
 refused_if false r = None
 
 -- the transaction of the first job that names p and is unsettled
-abbrev pub unsettled_at : ℕ → List Job → Option TxnId
+abbrev pub unsettled_at : ℕ → List Job → Option Txn
 unsettled_at p [] = None
 unsettled_at p (j ∷ js) = if among p j.parts && not (is_settled j) then Some j.txn else unsettled_at p js
 
@@ -244,7 +245,7 @@ abbrev pub plain_waits : Option Waiting → Bool
 plain_waits None = false
 plain_waits (Some o) = is_plain o.body
 
-abbrev pub busy_by : Master → ℕ → Option TxnId → Option Refusal
+abbrev pub busy_by : Master → ℕ → Option Txn → Option Refusal
 busy_by m p None = refused_if (plain_waits (m.at p).waits) (Busy p None)
 busy_by m p (Some x) = Some (Busy p (Some x))
 
@@ -271,7 +272,7 @@ begin_refusal m ps changes =
     or_next (deposed_by m.deposed) (or_next (refused_if (nat_lt 64 (length ps)) (TooMany (length ps))) (or_next (first_refusal m ps) (refused_if (nat_lt last_count (m.begun + 1) || any_spent m ps changes) Spent)))
 
 -- the transaction that would begin next
-abbrev pub next_txn : Master → TxnId
+abbrev pub next_txn : Master → Txn
 next_txn m = record { epoch = m.epoch; number = m.begun + 1 }
 
 abbrev pub begins : Master → List ℕ → (ℕ → ℕ) → Master
@@ -282,7 +283,7 @@ abbrev pub plain_refusal : Master → ℕ → Option Refusal
 plain_refusal m p = or_next (deposed_by m.deposed) (or_next (part_refusal m p) (refused_if (nat_le last_count (m.at p).last) Spent))
 
 -- the first own job of x
-abbrev pub own_job : TxnId → List Job → Option Job
+abbrev pub own_job : Txn → List Job → Option Job
 own_job x [] = None
 own_job x (j ∷ js) = if same x j.txn && j.mine then Some j else own_job x js
 
@@ -294,8 +295,8 @@ undecided_or None = Some Unknown
 undecided_or (Some j) = decided_by j.decision
 
 -- why x may not be given up: this master has not begun it, or has decided it
-abbrev pub give_up_refusal : Master → TxnId → Option Refusal
+abbrev pub give_up_refusal : Master → Txn → Option Refusal
 give_up_refusal m x = or_next (deposed_by m.deposed) (undecided_or (own_job x m.jobs))
 
-abbrev pub gives_up : Master → TxnId → Master
+abbrev pub gives_up : Master → Txn → Master
 gives_up m x = record m { jobs = map (given_up x) m.jobs }

@@ -1,10 +1,10 @@
 -- What elements and controllers say to each other, as far as transactions go. Messages and phases of RFC 5810, sections 7.5 to 7.7 and 4.3.1.2.2; claims, asks and the correlator's two halves are this profile's own.
 use Rattle.std.specs.Prelude.{ℕ, ◌+◌, ◌*◌, ◌/◌, ◌%◌, ◌^◌, ◌&&◌, ◌==◌, not, Bool, true, false, List, Option, Some, None}
-use Rattle.fc_protocol.specs.declared.ids.TxnId.{TxnId}
+use Rattle.fc_base.specs.Ids.{Txn}
+use Rattle.fc_protocol.specs.declared.answers.TxnEntry.{TxnEntry}
 use Rattle.fc_protocol.specs.declared.states.Seen.{Seen}
-use Rattle.fc_protocol.specs.declared.states.TxnState.{TxnState}
 
-abbrev pub same : TxnId → TxnId → Bool
+abbrev pub same : Txn → Txn → Bool
 same x y = x.epoch == y.epoch && x.number == y.number
 
 -- an epoch is a round of a controller, at least 1, times 256, plus the controller's number, which is not 0
@@ -12,7 +12,7 @@ abbrev pub is_epoch : ℕ → Bool
 is_epoch w = not (w / 256 == 0) && not (w % 256 == 0)
 
 -- whether a subject names a transaction: its epoch is one, and its number is at least 1
-abbrev pub is_name : TxnId → Bool
+abbrev pub is_name : Txn → Bool
 is_name x = is_epoch x.epoch && not (x.number == 0)
 
 -- a correlator by its halves: the epoch of the life that sends, and a count of the messages of that life to that element
@@ -30,24 +30,18 @@ correlator m = m.life * 2 ^ 32 + m.count
 abbrev pub stamp : ℕ → Stamp
 stamp n = record { life = n / 2 ^ 32; count = n % 2 ^ 32 }
 
--- a record of a transaction: its state, and its participants where it was opened here
-pub record Entry : Type 0 where
-  pub txn : TxnId
-  pub state : TxnState
-  pub parts : List ℕ
-
 -- what a request asks of an element
 pub data Body : Type 0 where
   Claim : ℕ → Body  -- a plain Config that writes this word to the element's epoch, and nothing else
-  Sot : TxnId → List ℕ → Body  -- start of transaction, with the participants
-  Mot : TxnId → Body  -- middle of transaction, with a change
-  Eot : TxnId → Body  -- end of transaction with COMMIT
-  Trcomp : TxnId → Body  -- end of transaction with TRCOMP
-  Abt : TxnId → Body  -- abort
+  Sot : Txn → List ℕ → Body  -- start of transaction, with the participants
+  Mot : Txn → Body  -- middle of transaction, with a change
+  Eot : Txn → Body  -- end of transaction with COMMIT
+  Trcomp : Txn → Body  -- end of transaction with TRCOMP
+  Abt : Txn → Body  -- abort
   Malformed : Body  -- any other Config with the flag of a transaction
   Plain : Body  -- any other Config without it
   Ask : Body  -- a Query of the epoch and of the transactions that are held
-  Ask_record : TxnId → Body  -- a Query of the epoch and of one record
+  Ask_record : Txn → Body  -- a Query of the epoch and of one record
 
 abbrev pub is_query : Body → Bool
 is_query (Claim w) = false
@@ -91,7 +85,7 @@ pub data Message : Type 0 where
   Beat : Message  -- a heartbeat to a controller that wants an answer
   Request : Stamp → Body → Message
   Reply : Stamp → ℕ → Message  -- the response to a Config: the first code in it that is not 0, or 0
-  Holds : Stamp → ℕ → List Entry → Message  -- the answer to an ask: epoch, and records of the transactions that are held
+  Holds : Stamp → ℕ → List TxnEntry → Message  -- the answer to an ask: epoch, and records of the transactions that are held
   Tells : Stamp → ℕ → Seen → Message  -- the answer to a record ask: epoch and state
   Unread : Stamp → Option ℕ → Message  -- the answer to a Query in which no epoch reads, or an epoch and nothing else that was asked
   Other_up : Message  -- any other message to a controller

@@ -1,14 +1,15 @@
 -- The records that an element keeps of transactions, in order of entry. This profile's own.
 use Rattle.std.specs.Prelude.{ℕ, ◌||◌, Bool, true, false, nat_le, List, [], ◌∷◌, length, Option, Some, None, if◌then◌else◌}
-use Rattle.fc_protocol.specs.declared.ids.TxnId.{TxnId}
+use Rattle.fc_base.specs.Ids.{Txn}
+use Rattle.fc_protocol.specs.Messages.{same}
+use Rattle.fc_protocol.specs.declared.answers.TxnEntry.{TxnEntry}
 use Rattle.fc_protocol.specs.declared.states.Seen.{Seen}
 use Rattle.fc_protocol.specs.declared.states.Seen.TheVariants.{Absent, Started, Prepared, Completed, Aborted}
 use Rattle.fc_protocol.specs.declared.states.TxnState.{TxnState}
 use Rattle.fc_protocol.specs.declared.states.TxnState.TheVariants.{Started as RecordStarted, Prepared as RecordPrepared, Completed as RecordCompleted, Aborted as RecordAborted}
-use Rattle.fc_protocol.specs.Messages.{Entry, same}
 
 -- the state of the record of x, where there is one
-abbrev pub state_of : TxnId → List Entry → Option TxnState
+abbrev pub state_of : Txn → List TxnEntry → Option TxnState
 state_of x [] = None
 state_of x (n ∷ ns) = if same x n.txn then Some n.state else state_of x ns
 
@@ -20,15 +21,15 @@ seen (Some RecordPrepared) = Prepared
 seen (Some RecordCompleted) = Completed
 seen (Some RecordAborted) = Aborted
 
-abbrev pub entry : TxnId → List ℕ → TxnState → Entry
-entry x ps s = record { txn = x; state = s; parts = ps }
+abbrev pub entry : Txn → List ℕ → TxnState → TxnEntry
+entry x ps s = record { txn = x; state = s; participants = ps }
 
 -- the records where that of x has the state s; a new one stands last, with the participants ps
-abbrev pub write : TxnId → List ℕ → TxnState → List Entry → List Entry
+abbrev pub write : Txn → List ℕ → TxnState → List TxnEntry → List TxnEntry
 write x ps s [] = entry x ps s ∷ []
-write x ps s (n ∷ ns) = if same x n.txn then entry n.txn n.parts s ∷ ns else n ∷ write x ps s ns
+write x ps s (n ∷ ns) = if same x n.txn then entry n.txn n.participants s ∷ ns else n ∷ write x ps s ns
 
-abbrev pub noted : TxnId → List ℕ → Option TxnState → List Entry → List Entry
+abbrev pub noted : Txn → List ℕ → Option TxnState → List TxnEntry → List TxnEntry
 noted x ps None ns = ns
 noted x ps (Some s) ns = write x ps s ns
 
@@ -39,16 +40,16 @@ is_held RecordPrepared = true
 is_held RecordCompleted = false
 is_held RecordAborted = false
 
-abbrev pub held : List Entry → List Entry
+abbrev pub held : List TxnEntry → List TxnEntry
 held [] = []
 held (n ∷ ns) = if is_held n.state then n ∷ held ns else held ns
 
-abbrev pub any_held : List Entry → Bool
+abbrev pub any_held : List TxnEntry → Bool
 any_held [] = false
 any_held (n ∷ ns) = is_held n.state || any_held ns
 
 -- an element keeps at most 4,096 records
-abbrev pub is_full : List Entry → Bool
+abbrev pub is_full : List TxnEntry → Bool
 is_full ns = nat_le 4096 (length ns)
 
 abbrev pub still_started : TxnState → Bool
@@ -64,6 +65,6 @@ undone RecordPrepared = RecordPrepared
 undone RecordCompleted = RecordCompleted
 undone RecordAborted = RecordAborted
 
-abbrev pub all_undone : List Entry → List Entry
+abbrev pub all_undone : List TxnEntry → List TxnEntry
 all_undone [] = []
-all_undone (n ∷ ns) = entry n.txn n.parts (undone n.state) ∷ all_undone ns
+all_undone (n ∷ ns) = entry n.txn n.participants (undone n.state) ∷ all_undone ns

@@ -1,11 +1,11 @@
 -- A world of elements, controllers and all messages ever sent, and the steps that may happen in it. This profile's own.
 use Rattle.std.specs.Prelude.{ℕ, zero, suc, ◌+◌, ◌*◌, ◌%◌, ◌^◌, ◌&&◌, ◌==◌, not, nat_lt, Bool, List, [], ◌∷◌, ◌++◌, slice_get, Option, Some, None, is_none, is_some, unwrap_or, if◌then◌else◌}
-use Rattle.fc_protocol.specs.declared.ids.TxnId.{TxnId}
+use Rattle.fc_base.specs.Ids.{Txn}
 use Rattle.fc_protocol.specs.Collections.{among, put}
-use Rattle.fc_protocol.specs.Messages.{Message, Setup, Beat, Request, Reply, Holds, Tells, Unread, Other_up, Other_down, Plain, Sent, sent}
 use Rattle.fc_protocol.specs.ElementMachine.{ElementState, new_element, Circumstance, Heard, hears}
-use Rattle.fc_protocol.specs.Trace.{Fact}
 use Rattle.fc_protocol.specs.MasterMachine.{Master, new_master, Speaks, sends_one, heard, at_once, finish, again, Refusal, begin_refusal, next_txn, begins, plain_refusal, give_up_refusal, gives_up}
+use Rattle.fc_protocol.specs.Messages.{Message, Setup, Beat, Request, Reply, Holds, Tells, Unread, Other_up, Other_down, Plain, Sent, sent}
+use Rattle.fc_protocol.specs.Trace.{Fact}
 
 -- the elements, the IDs of the controllers, and the first controller of each element
 pub record Network : Type 0 where
@@ -20,7 +20,7 @@ controller_of (k ∷ ks) c = if k % 256 == c then Some k else controller_of ks c
 
 -- a transaction that was begun, with its participants
 pub record Begun : Type 0 where
-  pub txn : TxnId
+  pub txn : Txn
   pub parts : List ℕ
 
 -- controllers are named by their number
@@ -42,7 +42,7 @@ pub data Step : Type 0 where
   Stop : ℕ → Step  -- this controller loses all it knows
   Begin : ℕ → List ℕ → (ℕ → ℕ) → Step  -- this controller begins a transaction with these participants, with so many changes for each
   Change : ℕ → ℕ → Step  -- this controller sends this element a plain change
-  Give_up : ℕ → TxnId → Step
+  Give_up : ℕ → Txn → Step
   Resend : ℕ → ℕ → Step  -- this controller sends this element again what waits there
 
 abbrev pub first_world : Network → World
@@ -125,11 +125,11 @@ abbrev pub begin_at : World → ℕ → List ℕ → (ℕ → ℕ) → Option Ma
 begin_at w k ps changes None = w
 begin_at w k ps changes (Some m) = begin_by w k ps changes m (begin_refusal m ps changes)
 
-abbrev pub give_up_by : World → ℕ → TxnId → Master → Option Refusal → World
+abbrev pub give_up_by : World → ℕ → Txn → Master → Option Refusal → World
 give_up_by w k x m (Some r) = w
 give_up_by w k x m None = speaks w k [] (finish k (gives_up m x))
 
-abbrev pub give_up_at : World → ℕ → TxnId → Option Master → World
+abbrev pub give_up_at : World → ℕ → Txn → Option Master → World
 give_up_at w k x None = w
 give_up_at w k x (Some m) = give_up_by w k x m (give_up_refusal m x)
 
