@@ -1,12 +1,12 @@
 -- Each step of the world is moves of the core.
-use Rattle.std.proofs.Common.{◌≡◌, ℕ, ◌+◌, ◌*◌, ◌%◌, zero, suc, ◌<◌, ◌≤◌, ◌==◌, ◌&&◌, ◌||◌, not, Bool, true, false, cond, nat_lt, List, [], ◌∷◌, ◌++◌, append_assoc, slice_get, map, Option, Some, None, is_none, is_some, ◌⊎◌, inl, inr, ⊎_elim, refl, sym, ap, ◌∙◌, subst, arith, eqb-true, eq-eqb}
+use Rattle.std.proofs.Common.{◌≡◌, ℕ, ◌+◌, ◌*◌, ◌%◌, zero, suc, ◌<◌, ◌≤◌, ◌==◌, ◌&&◌, ◌||◌, not, Bool, true, false, cond, nat_lt, List, [], ◌∷◌, ◌++◌, append_assoc, map, Option, Some, None, is_none, is_some, ◌⊎◌, inl, inr, ⊎_elim, refl, sym, ap, ◌∙◌, subst, arith, eqb-true, eq-eqb}
 use Rattle.fc_protocol.specs.Agreement.{decision_of}
 use Rattle.fc_protocol.specs.Collections.{among, put, or_next}
 use Rattle.fc_protocol.specs.Core.{Core, Move, moves, start}
-use Rattle.fc_protocol.specs.ElementMachine.{Circumstance, only_says, hears}
+use Rattle.fc_protocol.specs.ElementMachine.{Circumstance, hears}
 use Rattle.fc_protocol.specs.Jobs.{Job, find, decided_job, new_job, given_up}
 use Rattle.fc_protocol.specs.MasterMachine.{Refusal, begin_refusal, plain_refusal, give_up_refusal, Waiting, Peer, Master, new_master, decide_all, due, sends_one, sends_all, heard, again, at_once, finish, begins, gives_up}
-use Rattle.fc_protocol.specs.Messages.{Trcomp, Abt, Malformed, Beat, Unread, same, Stamp, Body, Message, Setup, Request, Reply, Holds, Tells, Other_up, Other_down, Plain, Sent, sent}
+use Rattle.fc_protocol.specs.Messages.{Trcomp, Abt, Beat, Unread, same, Stamp, Body, Message, Setup, Request, Reply, Holds, Tells, Other_up, Other_down, Plain, Sent, sent}
 use Rattle.fc_protocol.specs.Records.{seen, state_of}
 use Rattle.fc_protocol.specs.Trace.{Fact, Opened_at, Prepared_at, Settled_at}
 use Rattle.fc_protocol.specs.WorldSteps.{Open, Give_up, Network, controller_of, World, Begun, Step, Deliver, Moment, Start, Stop, Begin, Change, Resend, murmurs, sender, numbered, is_round, may_start, begin_by, give_up_by, change_by, change_at, first_world, says, with_master, with_begun, speaks, to_master, to_element, delivered, delivers, starts, begin_at, give_up_at, resend_at, happens, run}

@@ -16,3 +16,4 @@ pub mod Binding
 pub mod Numbers
 pub mod Stale
 pub mod Lasting
+pub mod Halves

@@ -1,5 +1,5 @@
 -- One life makes a transaction, once, with one list of participants.
-use Rattle.std.proofs.Common.{◌≡◌, ℕ, ◌+◌, ◌*◌, ◌<◌, ◌≤◌, ◌&&◌, ◌||◌, ◌==◌, eqb-true, not, Bool, true, false, cond, nat_lt, List, [], ◌∷◌, ◌++◌, slice_get, Option, Some, None, is_none, is_some, inl, inr, ⊎_elim, refl, sym, ap, ◌∙◌, subst, arith}
+use Rattle.std.proofs.Common.{◌≡◌, ℕ, ◌+◌, ◌*◌, ◌<◌, ◌≤◌, ◌&&◌, ◌||◌, ◌==◌, eqb-true, Bool, true, false, cond, nat_lt, List, [], ◌∷◌, Option, Some, None, is_some, inl, inr, ⊎_elim, refl, sym, ap, ◌∙◌, subst, arith}
 use Rattle.fc_protocol.specs.Agreement.{Agree, SettleOnce, Ready, OnePlan, Settled, SettledWhole, BegunOnce, SaysOnce, FollowsCore}
 use Rattle.fc_protocol.specs.Collections.{among}
 use Rattle.fc_protocol.specs.Core.{start}
@@ -7,11 +7,8 @@ use Rattle.fc_protocol.specs.ElementMachine.{Circumstance}
 use Rattle.fc_protocol.specs.Jobs.{all_settled, Job}
 use Rattle.fc_protocol.specs.MasterMachine.{Refusal, begin_refusal, plain_refusal, give_up_refusal, unread_told, Waiting, Master, new_master, at_put, due, sends_one, sends_all, heard, matches, coded, by_epoch, depose, is_lower, unmatched, held_by, held_told, record_by, record_told, begins, gives_up, decide_all, finish, Speaks}
 use Rattle.fc_protocol.specs.Messages.{Malformed, Beat, Unread, sent, same, Body, Claim, Sot, Mot, Eot, Trcomp, Abt, Ask, Ask_record, Plain, Message, Setup, Request, Reply, Holds, Tells, Other_up, Other_down, Sent}
-use Rattle.fc_protocol.specs.Trace.{Fact, Opened_at, Prepared_at, Settled_at}
 use Rattle.fc_protocol.specs.WorldSteps.{Open, Give_up, Network, controller_of, World, Begun, Step, Deliver, Moment, Start, Stop, Begin, Change, Resend, murmurs, says, numbered, may_start, begin_by, give_up_by, change_by, change_at, first_world, with_begun, speaks, to_master, delivered, delivers, starts, begin_at, give_up_at, resend_at, happens, run}
 use Rattle.fc_protocol.specs.declared.answers.TxnEntry.{TxnEntry}
-use Rattle.fc_protocol.specs.declared.states.Decision.{Decision}
-use Rattle.fc_protocol.specs.declared.states.Decision.TheVariants.{Complete}
 use Rattle.fc_protocol.specs.declared.states.Seen.{Seen}
 use Rattle.fc_base.specs.Ids.{Txn}
 use Rattle.fc_protocol.proofs.Puts.{put_here, both_first, both_second}

@@ -1,10 +1,10 @@
 -- Each phase at an element is moves of the core.
-use Rattle.std.proofs.Common.{◌≡◌, ℕ, ◌==◌, ◌&&◌, not, Bool, true, false, cond, nat_le, List, [], ◌∷◌, ◌++◌, length, Option, Some, None, ◌⊎◌, inl, inr, ⊎_elim, refl, sym, ap, ◌∙◌, subst, arith, eqb-true, eq-eqb}
+use Rattle.std.proofs.Common.{◌≡◌, ℕ, ◌==◌, ◌&&◌, not, Bool, true, false, nat_le, List, [], ◌∷◌, ◌++◌, length, Option, Some, None, ◌⊎◌, inl, inr, ⊎_elim, refl, sym, ap, ◌∙◌, subst, arith, eqb-true, eq-eqb}
 use Rattle.fc_protocol.specs.Collections.{among}
 use Rattle.fc_protocol.specs.Core.{Element, Core, settled, to}
 use Rattle.fc_protocol.specs.ElementMachine.{Circumstance, acts, Acts, after, idles, admits, rises_above}
 use Rattle.fc_protocol.specs.Messages.{same, is_name, Body, Claim, Sot, Mot, Eot, Trcomp, Abt, Malformed, Plain, Ask, Ask_record}
-use Rattle.fc_protocol.specs.Phases.{Turn, keeps, becomes, starting, continuing, preparing, settling, entering, failed, with_rest, opening, adding, aborting}
+use Rattle.fc_protocol.specs.Phases.{Turn, keeps, becomes, starting, continuing, preparing, settling, failed, with_rest, opening, adding, aborting}
 use Rattle.fc_protocol.specs.Records.{state_of, seen, noted, is_held, any_held, is_full}
 use Rattle.fc_protocol.specs.Trace.{Opens, Settles, Fact, Opened_at, facts_of}
 use Rattle.fc_protocol.specs.declared.answers.TxnEntry.{TxnEntry}

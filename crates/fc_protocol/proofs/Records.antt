@@ -1,5 +1,5 @@
 -- The records of an element, seen from one transaction.
-use Rattle.std.proofs.Common.{◌≡◌, ℕ, ◌≤◌, Bool, true, false, cond, List, [], ◌∷◌, ◌++◌, append_assoc, ◌||◌, Option, Some, None, ◌⊎◌, inl, inr, ⊎_elim, refl, sym, ap, ◌∙◌, subst, arith}
+use Rattle.std.proofs.Common.{◌≡◌, ℕ, ◌≤◌, Bool, true, false, cond, List, [], ◌∷◌, ◌++◌, append_assoc, ◌||◌, Option, Some, None, inl, ⊎_elim, refl, sym, ap, ◌∙◌, subst, arith}
 use Rattle.fc_protocol.specs.Core.{raised}
 use Rattle.fc_protocol.specs.Messages.{same}
 use Rattle.fc_protocol.specs.Records.{entry, state_of, seen, write, noted, undone, all_undone, held, is_held, still_started}

@@ -1,6 +1,6 @@
 -- A request of a life below the element's epoch changes nothing there.
 use Rattle.std.proofs.Common.{◌≡◌, ℕ, ◌<◌, ◌==◌, Bool, true, false, cond, [], None, refl, arith}
-use Rattle.fc_protocol.specs.ElementMachine.{ElementState, Circumstance, Heard, only_says, by_verdict, configured, by_body, answered, reply, hears}
+use Rattle.fc_protocol.specs.ElementMachine.{ElementState, Circumstance, Heard, only_says, by_verdict, configured, by_body, reply, hears}
 use Rattle.fc_protocol.specs.Messages.{Stamp, Body, Claim, Sot, Mot, Eot, Trcomp, Abt, Malformed, Plain, Ask, Ask_record}
 use Rattle.fc_protocol.specs.declared.verdict.Verdict.{Verdict}
 use Rattle.fc_protocol.specs.declared.verdict.Verdict.TheVariants.{Claim as Claims, Unclaimed, Stale, Again, Gap, Next}

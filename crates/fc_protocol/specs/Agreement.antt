@@ -1,5 +1,5 @@
 -- What holds of a world however messages are lost, repeated and reordered and controllers stop and return. Lists of facts have the newest first. This profile's own.
-use Rattle.std.specs.Prelude.{◌≡◌, ℕ, true, List, [], ◌∷◌, ◌++◌, Option, Some, None}
+use Rattle.std.specs.Prelude.{◌≡◌, ℕ, true, List, ◌∷◌, ◌++◌, Option, Some, None}
 use Rattle.fc_base.specs.Ids.{Txn}
 use Rattle.fc_protocol.specs.Collections.{In, among}
 use Rattle.fc_protocol.specs.Core.{Move, start, moves}
@@ -10,7 +10,7 @@ use Rattle.fc_protocol.specs.Records.{seen, state_of}
 use Rattle.fc_protocol.specs.Trace.{Fact, Opened_at, Prepared_at, Settled_at}
 use Rattle.fc_protocol.specs.WorldSteps.{World, Begun}
 use Rattle.fc_protocol.specs.declared.states.Decision.{Decision}
-use Rattle.fc_protocol.specs.declared.states.Decision.TheVariants.{Complete, Abort}
+use Rattle.fc_protocol.specs.declared.states.Decision.TheVariants.{Complete}
 
 -- no two elements settle one transaction differently
 abbrev pub Agree : List Fact → Type 0

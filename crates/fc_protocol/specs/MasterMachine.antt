@@ -1,9 +1,9 @@
 -- The machine of a master: one life of a controller, with one epoch. Claims, asks, jobs and counts are this profile's own; the messages are those of RFC 5810.
-use Rattle.std.specs.Prelude.{ℕ, ◌+◌, ◌-◌, ◌^◌, ◌&&◌, ◌||◌, ◌==◌, Bool, true, false, not, nat_lt, nat_le, max, List, [], ◌∷◌, ◌++◌, map, length, Option, Some, None, is_none, is_some, option_map, unwrap_or, if◌then◌else◌}
+use Rattle.std.specs.Prelude.{ℕ, ◌+◌, ◌-◌, ◌^◌, ◌&&◌, ◌||◌, ◌==◌, Bool, true, false, not, nat_lt, nat_le, max, List, [], ◌∷◌, ◌++◌, map, length, Option, Some, None, is_none, option_map, unwrap_or, if◌then◌else◌}
 use Rattle.fc_base.specs.Ids.{Txn}
 use Rattle.fc_protocol.specs.Codes.{read_only}
 use Rattle.fc_protocol.specs.Collections.{among, put, or_next}
-use Rattle.fc_protocol.specs.Jobs.{Job, new_job, find, on_job, discover, is_settled, decided_job, given_up, first_need, answered_by, answer, by_code}
+use Rattle.fc_protocol.specs.Jobs.{Job, new_job, on_job, discover, is_settled, decided_job, given_up, first_need, answered_by, answer, by_code}
 use Rattle.fc_protocol.specs.Messages.{same, Stamp, same_stamp, Body, Claim, Sot, Mot, Eot, Trcomp, Abt, Malformed, Plain, Ask, Ask_record, is_query, is_claim, Message, Setup, Beat, Request, Reply, Holds, Tells, Unread, Other_up, Other_down, Sent, sent}
 use Rattle.fc_protocol.specs.declared.answers.TxnEntry.{TxnEntry}
 use Rattle.fc_protocol.specs.declared.states.Decision.{Decision}

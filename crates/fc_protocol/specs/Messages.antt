@@ -1,5 +1,5 @@
 -- What elements and controllers say to each other, as far as transactions go. Messages and phases of RFC 5810, sections 7.5 to 7.7 and 4.3.1.2.2; claims, asks and the correlator's two halves are this profile's own.
-use Rattle.std.specs.Prelude.{ℕ, ◌+◌, ◌*◌, ◌/◌, ◌%◌, ◌^◌, ◌&&◌, ◌==◌, not, Bool, true, false, List, Option, Some, None}
+use Rattle.std.specs.Prelude.{ℕ, ◌+◌, ◌*◌, ◌/◌, ◌%◌, ◌^◌, ◌&&◌, ◌==◌, not, nat_lt, Bool, true, false, List, Option, Some, None}
 use Rattle.fc_base.specs.Ids.{Txn}
 use Rattle.fc_protocol.specs.declared.answers.TxnEntry.{TxnEntry}
 use Rattle.fc_protocol.specs.declared.states.Seen.{Seen}
@@ -7,9 +7,9 @@ use Rattle.fc_protocol.specs.declared.states.Seen.{Seen}
 abbrev pub same : Txn → Txn → Bool
 same x y = x.epoch == y.epoch && x.number == y.number
 
--- an epoch is a round of a controller, at least 1, times 256, plus the controller's number, which is not 0
+-- whether the word is an epoch: a round of a controller, at least 1, times 256, plus the controller's number, which is not 0, in 32 bits
 abbrev pub is_epoch : ℕ → Bool
-is_epoch w = not (w / 256 == 0) && not (w % 256 == 0)
+is_epoch w = not (w / 256 == 0) && (not (w % 256 == 0) && nat_lt w (2 ^ 32))
 
 -- whether a subject names a transaction: its epoch is one, and its number is at least 1
 abbrev pub is_name : Txn → Bool

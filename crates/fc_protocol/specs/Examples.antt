@@ -1,0 +1,114 @@
+-- Whole runs that compute, with the report of each: two elements, and one controller or two. This profile's own.
+use Rattle.std.specs.Prelude.{ℕ, zero, suc, ◌+◌, Bool, false, List, [], ◌∷◌, ◌++◌, Option, Some, None, option_map}
+use Rattle.fc_base.specs.Ids.{Txn}
+use Rattle.fc_protocol.specs.declared.answers.Answer.{Answer}
+use Rattle.fc_protocol.specs.declared.states.Decision.{Decision}
+use Rattle.fc_protocol.specs.declared.states.Seen.{Seen}
+use Rattle.fc_protocol.specs.declared.states.TxnState.{TxnState}
+use Rattle.fc_protocol.specs.Codes.{read_only}
+use Rattle.fc_protocol.specs.ElementMachine.{ElementState, Circumstance}
+use Rattle.fc_protocol.specs.Jobs.{Job, find, is_settled}
+use Rattle.fc_protocol.specs.MasterMachine.{Master}
+use Rattle.fc_protocol.specs.Messages.{Message, Sent}
+use Rattle.fc_protocol.specs.Records.{state_of}
+use Rattle.fc_protocol.specs.WorldSteps.{Network, World, Step, Open, Deliver, Start, Stop, Begin, Give_up, first_world, run}
+
+-- the controllers 40000001 and 40000002
+abbrev pub first_controller : ℕ
+first_controller = 1073741825
+
+abbrev pub second_controller : ℕ
+second_controller = 1073741826
+
+abbrev pub pair : Network
+pair = record { elements = 1 ∷ 2 ∷ []; controllers = first_controller ∷ second_controller ∷ []; first_ce = λ _. first_controller }
+
+abbrev pub lone : Network
+lone = record { elements = 1 ∷ []; controllers = first_controller ∷ []; first_ce = λ _. first_controller }
+
+-- all goes well
+abbrev pub smooth : Circumstance
+smooth = record { unheard = false; misfit = 0; quiet = false; rest = 0; plain = 0; shape = 0; others = [] }
+
+-- what comes with a change may not be written
+abbrev pub refusing : Circumstance
+refusing = record { unheard = false; misfit = 0; quiet = false; rest = read_only; plain = 0; shape = 0; others = [] }
+
+abbrev pub deliver : ℕ → Step
+deliver i = Deliver i smooth
+
+-- so many messages in their order, from this one on
+abbrev pub delivers_from : ℕ → ℕ → List Step
+delivers_from i zero = []
+delivers_from i (suc n) = deliver i ∷ delivers_from (i + 1) n
+
+-- the first controller claims both elements and begins a transaction of one change at each
+abbrev pub opening_steps : List Step
+opening_steps = Start 1 1 ∷ Open 1 1 ∷ Open 2 1 ∷ delivers_from 1 12 ++ Begin 1 (1 ∷ 2 ∷ []) (λ _. 1) ∷ []
+
+-- the second controller takes over
+abbrev pub takeover : List Step
+takeover = Start 2 1 ∷ Open 1 2 ∷ Open 2 2 ∷ []
+
+-- every message arrives once
+abbrev pub clean : List Step
+clean = opening_steps ++ delivers_from 13 16
+
+-- the first controller stops once it has decided to complete; the second completes, and then an old TRCOMP arrives
+abbrev pub completing_failover : List Step
+completing_failover = opening_steps ++ delivers_from 13 13 ++ Stop 1 ∷ takeover ++ delivers_from 28 18 ++ deliver 26 ∷ []
+
+-- the first controller stops before the second element has opened; the second aborts, and then an old SOT arrives
+abbrev pub aborting_failover : List Step
+aborting_failover = opening_steps ++ deliver 13 ∷ Stop 1 ∷ takeover ++ delivers_from 16 6 ++ deliver 14 ∷ []
+
+-- the first controller gives up what all have prepared, and its aborts come too late
+abbrev pub late_give_up : List Step
+late_give_up = opening_steps ++ delivers_from 13 11 ++ Give_up 1 (record { epoch = 257; number = 1 }) ∷ takeover ++ delivers_from 26 20 ++ deliver 25 ∷ []
+
+-- the end of the transaction arrives three times at the first element
+abbrev pub repeated_end : List Step
+repeated_end = opening_steps ++ delivers_from 13 8 ++ deliver 21 ∷ deliver 21 ∷ deliver 21 ∷ []
+
+-- one element refuses the one change
+abbrev pub refused_change : List Step
+refused_change = Start 1 1 ∷ Open 1 1 ∷ delivers_from 1 6 ++ Begin 1 (1 ∷ []) (λ _. 1) ∷ deliver 7 ∷ deliver 8 ∷ Deliver 9 refusing ∷ delivers_from 10 5
+
+-- what a report says of an element
+pub record ElementLine : Type 0 where
+  pub epoch : ℕ
+  pub ce : ℕ
+  pub sequence : ℕ
+  pub state : Option TxnState
+
+-- what a report says of a transaction: its decision, and whether its job is settled
+pub record JobLine : Type 0 where
+  pub decision : Option Decision
+  pub settled : Bool
+
+abbrev pub the_txn : Txn
+the_txn = record { epoch = 257; number = 1 }
+
+abbrev pub element_line : ElementState → ElementLine
+element_line el = record { epoch = el.epoch; ce = el.ce; sequence = el.sequence; state = state_of the_txn el.records }
+
+abbrev pub job_line : Job → JobLine
+job_line j = record { decision = j.decision; settled = is_settled j }
+
+abbrev pub job_of : Option Master → Option JobLine
+job_of None = None
+job_of (Some m) = option_map job_line (find the_txn m.jobs)
+
+-- the messages that were sent after the first so many
+abbrev pub sent_since : ℕ → List Sent → List Message
+sent_since zero [] = []
+sent_since zero (s ∷ ss) = s.message ∷ sent_since zero ss
+sent_since (suc n) [] = []
+sent_since (suc n) (s ∷ ss) = sent_since n ss
+
+abbrev pub after_steps : Network → List Step → World
+after_steps n ss = run ss (first_world n)
+
+-- the answers of two participants
+abbrev pub answers_of : ℕ → Seen → ℕ → Seen → List (Option Answer)
+answers_of d s e t = Some (record { epoch = d; seen = s }) ∷ Some (record { epoch = e; seen = t }) ∷ []

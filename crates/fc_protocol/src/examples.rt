@@ -1,0 +1,54 @@
+//! Runs that compute: the laws of this crate are not empty.
+
+ghost use Rattle.std.specs.Prelude.{◌≡◌, ℕ, true, false, List, [], ◌∷◌, ◌++◌, length, Some, None};
+ghost use Rattle.fc_protocol.specs.Examples.{first_controller, second_controller, pair, lone, clean, completing_failover, aborting_failover, late_give_up, repeated_end, refused_change, the_txn, element_line, job_of, sent_since, after_steps};
+ghost use Rattle.fc_protocol.specs.Messages.{Reply, Tells};
+ghost use Rattle.fc_protocol.specs.Trace.{Opened_at, Prepared_at, Claimed_at};
+ghost use Rattle.fc_protocol.specs.declared.states.Decision.TheVariants.{Complete, Abort};
+ghost use Rattle.fc_protocol.specs.declared.states.TxnState.TheVariants.{Prepared, Completed, Aborted};
+
+/// Where every message arrives once, both elements complete after 28 messages.
+pub fn clean_round()
+    ensures first { element_line ((after_steps pair clean).at 1) ≡ record { epoch = 257; ce = first_controller; sequence = 4; state = Some Completed } }
+    ensures second { element_line ((after_steps pair clean).at 2) ≡ record { epoch = 257; ce = first_controller; sequence = 4; state = Some Completed } }
+    ensures job { job_of ((after_steps pair clean).masters 1) ≡ Some (record { decision = Some Complete; settled = true }) }
+    ensures sent { length (after_steps pair clean).sent ≡ 28 }
+{}
+
+/// Where the first controller stops after its decision, the second completes; the old TRCOMP is answered 0C and changes nothing.
+pub fn failover_completes()
+    ensures first { element_line ((after_steps pair completing_failover).at 1) ≡ record { epoch = 258; ce = second_controller; sequence = 0; state = Some Completed } }
+    ensures second { element_line ((after_steps pair completing_failover).at 2) ≡ record { epoch = 258; ce = second_controller; sequence = 1; state = Some Completed } }
+    ensures stopped { (after_steps pair completing_failover).masters 1 ≡ None }
+    ensures job { job_of ((after_steps pair completing_failover).masters 2) ≡ Some (record { decision = Some Complete; settled = true }) }
+    ensures late { sent_since 45 (after_steps pair completing_failover).sent ≡ Reply (record { life = 257; count = 4 }) 12 ∷ [] }
+{}
+
+/// Where the first controller stops before both have opened, the claim aborts; the late SOT is answered 0C and opens nothing.
+pub fn failover_aborts()
+    ensures first { element_line ((after_steps pair aborting_failover).at 1) ≡ record { epoch = 258; ce = second_controller; sequence = 0; state = Some Aborted } }
+    ensures second { element_line ((after_steps pair aborting_failover).at 2) ≡ record { epoch = 258; ce = second_controller; sequence = 0; state = None } }
+    ensures late { sent_since 23 (after_steps pair aborting_failover).sent ≡ Reply (record { life = 257; count = 1 }) 12 ∷ [] }
+{}
+
+/// Where the first controller gives up what all have prepared, and its aborts come late, the second completes; the first never sees it settled.
+pub fn late_give_up_completes()
+    ensures first { element_line ((after_steps pair late_give_up).at 1) ≡ record { epoch = 258; ce = second_controller; sequence = 1; state = Some Completed } }
+    ensures second { element_line ((after_steps pair late_give_up).at 2) ≡ record { epoch = 258; ce = second_controller; sequence = 1; state = Some Completed } }
+    ensures unsettled { job_of ((after_steps pair late_give_up).masters 1) ≡ Some (record { decision = Some Abort; settled = false }) }
+    ensures job { job_of ((after_steps pair late_give_up).masters 2) ≡ Some (record { decision = Some Complete; settled = true }) }
+    ensures sent { length (after_steps pair late_give_up).sent ≡ 46 }
+{}
+
+/// An end that arrives three times prepares once, and is answered three times alike.
+pub fn repeated_end_prepares_once()
+    ensures facts { (after_steps pair repeated_end).facts ≡ Prepared_at 1 the_txn ∷ Opened_at 2 the_txn (1 ∷ 2 ∷ []) ∷ Opened_at 1 the_txn (1 ∷ 2 ∷ []) ∷ Claimed_at 2 257 ∷ Claimed_at 1 257 ∷ [] }
+    ensures replies { sent_since 22 (after_steps pair repeated_end).sent ≡ Reply (record { life = 257; count = 3 }) 0 ∷ Reply (record { life = 257; count = 3 }) 0 ∷ Reply (record { life = 257; count = 3 }) 0 ∷ [] }
+{}
+
+/// A change that is refused with 0C undoes the transaction; the master asks whether it still is the master, and aborts.
+pub fn refused_change_aborts()
+    ensures element { element_line ((after_steps lone refused_change).at 1) ≡ record { epoch = 257; ce = first_controller; sequence = 3; state = Some Aborted } }
+    ensures job { job_of ((after_steps lone refused_change).masters 1) ≡ Some (record { decision = Some Abort; settled = true }) }
+    ensures sent { length (after_steps lone refused_change).sent ≡ 14 }
+{}
