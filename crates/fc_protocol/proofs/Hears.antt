@@ -1,7 +1,7 @@
 -- A master hears a message: the core stays, and so do all facts about the master.
 use Rattle.std.proofs.Common.{◌≡◌, ℕ, ◌<◌, ◌≤◌, ◌==◌, ◌||◌, not, Bool, true, false, cond, nat_lt, List, Option, Some, None, refl, sym, ap, ◌∙◌, subst, arith, eqb-true}
 use Rattle.fc_protocol.specs.Collections.{among, put}
-use Rattle.fc_protocol.specs.Jobs.{answer}
+use Rattle.fc_protocol.specs.Jobs.{discover, on_job, answered_by, answer}
 use Rattle.fc_protocol.specs.MasterMachine.{unread_told, Waiting, Peer, Master, at_put, after_code, after_ask, unmatched, dropped, depose, matches, coded, is_lower, by_epoch, held_by, held_told, record_by, record_told, heard}
 use Rattle.fc_protocol.specs.Messages.{Malformed, Beat, Unread, Stamp, same_stamp, Body, Claim, Sot, Mot, Eot, Trcomp, Abt, Ask, Ask_record, Plain, is_query, Message, Setup, Request, Reply, Holds, Tells, Other_up, Other_down, Sent, sent}
 use Rattle.fc_protocol.specs.declared.answers.TxnEntry.{TxnEntry}
@@ -94,53 +94,57 @@ module _ (x : Txn) (parts : List ℕ) (h : Past) (k : ℕ) where
       (idle m.epoch p (m.at p) (after_code (m.at p) o.body code) refl refl refl (f.peers p))
       (by_code_fine x parts h m.epoch m.begun p o.body (code == 0) m.jobs f.jobs t.means ((λ z v. subst (λ n. Told h.core.notes (note n p Prepared)) t.life (r.prepared (is_zero code z) (body ∙ v))), (λ z v. r.completed (is_zero code z) (body ∙ v)), (λ z v. r.aborted (is_zero code z) (body ∙ v))))
 
-  held_fine_by : (m : Master) (p : ℕ) (ns : List TxnEntry) (b : Body) → MasterFine x parts h k m → AllOf (HeldFine x parts h m.epoch) ns → MasterFine x parts h k (held_by m p ns b)
-  held_fine_by m p ns Ask f a = with_peer m (held_by m p ns Ask) p (after_ask (m.at p)) refl refl (λ _. refl) f (idle m.epoch p (m.at p) (after_ask (m.at p)) refl refl refl (f.peers p)) (discover_fine x parts h m.epoch m.begun ns m.jobs a f.jobs)
-  held_fine_by m p ns (Ask_record y) f a = unmatch m p f
-  held_fine_by m p ns (Claim w) f a = f
-  held_fine_by m p ns (Sot y ps) f a = f
-  held_fine_by m p ns (Mot y) f a = f
-  held_fine_by m p ns (Eot y) f a = f
-  held_fine_by m p ns (Trcomp y) f a = f
-  held_fine_by m p ns (Abt y) f a = f
-  held_fine_by m p ns Plain f a = f
-  held_fine_by m p ns Malformed f a = f
-
-  held_fine : (m : Master) (p : ℕ) (ns : List TxnEntry) (w : Option Waiting) → MasterFine x parts h k m → AllOf (HeldFine x parts h m.epoch) ns → MasterFine x parts h k (held_told m p ns w)
-  held_fine m p ns None f a = f
-  held_fine m p ns (Some o) f a = held_fine_by m p ns o.body f a
-
-  record_fine_by : (m : Master) (p : ℕ) (t : Seen) (b : Body) → MasterFine x parts h k m → Means x parts h m.epoch p b → (b ≡ Ask_record x → Told h.core.notes (note m.epoch p t) × (over t ≡ true → (h.core.at p).state ≡ t)) → MasterFine x parts h k (record_by m p m.epoch t b)
-  record_fine_by m p t (Ask_record y) f n v =
-      with_peer m (record_by m p m.epoch t (Ask_record y)) p (dropped (m.at p)) refl refl (λ _. refl) f (idle m.epoch p (m.at p) (dropped (m.at p)) refl refl refl (f.peers p))
-      (answer_fine x parts h m.epoch m.begun m.jobs y p (answer m.epoch t) f.jobs (λ i.
-      let told = v (ap Ask_record i) in
-      let above : x.epoch < m.epoch = n i in
-      record { above = λ _. told.0; prepared = λ _. told.0; own = λ j. absurd (omega arith); ended = λ _ o. told.1 o }))
-  record_fine_by m p t Ask f n v = unmatch m p f
-  record_fine_by m p t (Claim w) f n v = f
-  record_fine_by m p t (Sot y ps) f n v = f
-  record_fine_by m p t (Mot y) f n v = f
-  record_fine_by m p t (Eot y) f n v = f
-  record_fine_by m p t (Trcomp y) f n v = f
-  record_fine_by m p t (Abt y) f n v = f
-  record_fine_by m p t Plain f n v = f
-  record_fine_by m p t Malformed f n v = f
-
-  record_fine : (m : Master) (p : ℕ) (s : Stamp) (t : Seen) (w : Option Waiting) → MasterFine x parts h k m → ((t : Sent) → In t h.sent → SentFine x parts h t) → Unique h.sent → TellsFine x parts h p s m.epoch t → (m.at p).waits ≡ w → matches s true w ≡ true
-      → MasterFine x parts h k (record_told m p m.epoch t w)
-  record_fine m p s t None f all u r w e = f
-  record_fine m p s t (Some o) f all u r w e =
-      let v = matched m p s true o f all w e in
-      let body : r.body ≡ o.body = u p r.controller k s r.body o.body r.asked v.asked (r.kind ∙ sym (kind s true o e)) in
-      record_fine_by m p t o.body f v.means (λ i. (r.told (body ∙ i), r.ended (body ∙ i)))
-
   -- an answer of the epoch e counts only where e is the master's
   epoch_fine : (m n : Master) (p e : ℕ) → MasterFine x parts h k m → (e ≡ m.epoch → MasterFine x parts h k n) → MasterFine x parts h k (by_epoch m p e n)
   epoch_fine m n p e f g =
       cond_all (MasterFine x parts h k) (nat_lt m.epoch e) (depose m e) _ (λ _. deposes m e f)
       (λ a. cond_all (MasterFine x parts h k) (is_lower m p e) (at_put m p (unmatched (m.at p))) n (λ _. unmatch m p f)
       (λ b. let low : e ≤ m.epoch = not_above _ _ a in let high : m.epoch ≤ e = not_above _ _ (or_first (nat_lt e m.epoch) _ b) in g (omega arith)))
+
+  held_fine_by : (m : Master) (p e : ℕ) (ns : List TxnEntry) (b : Body) → MasterFine x parts h k m → (e ≡ m.epoch → AllOf (HeldFine x parts h m.epoch) ns) → MasterFine x parts h k (held_by m p e ns b)
+  held_fine_by m p e ns Ask f a =
+      let n = record m { at = put m.at p (after_ask (m.at p)); jobs = discover ns m.jobs } in
+      epoch_fine m n p e f (λ i. with_peer m n p (after_ask (m.at p)) refl refl (λ _. refl) f (idle m.epoch p (m.at p) (after_ask (m.at p)) refl refl refl (f.peers p)) (discover_fine x parts h m.epoch m.begun ns m.jobs (a i) f.jobs))
+  held_fine_by m p e ns (Ask_record y) f a = unmatch m p f
+  held_fine_by m p e ns (Claim w) f a = f
+  held_fine_by m p e ns (Sot y ps) f a = f
+  held_fine_by m p e ns (Mot y) f a = f
+  held_fine_by m p e ns (Eot y) f a = f
+  held_fine_by m p e ns (Trcomp y) f a = f
+  held_fine_by m p e ns (Abt y) f a = f
+  held_fine_by m p e ns Plain f a = f
+  held_fine_by m p e ns Malformed f a = f
+
+  held_fine : (m : Master) (p e : ℕ) (ns : List TxnEntry) (w : Option Waiting) → MasterFine x parts h k m → (e ≡ m.epoch → AllOf (HeldFine x parts h m.epoch) ns) → MasterFine x parts h k (held_told m p e ns w)
+  held_fine m p e ns None f a = f
+  held_fine m p e ns (Some o) f a = held_fine_by m p e ns o.body f a
+
+  record_fine_by : (m : Master) (p e : ℕ) (t : Seen) (b : Body) → MasterFine x parts h k m → Means x parts h m.epoch p b → (b ≡ Ask_record x → Told h.core.notes (note e p t) × (over t ≡ true → (h.core.at p).state ≡ t)) → MasterFine x parts h k (record_by m p e t b)
+  record_fine_by m p e t (Ask_record y) f n v =
+      let r = record m { at = put m.at p (dropped (m.at p)); jobs = on_job y (answered_by p (answer e t)) m.jobs } in
+      epoch_fine m r p e f (λ _.
+      with_peer m r p (dropped (m.at p)) refl refl (λ _. refl) f (idle m.epoch p (m.at p) (dropped (m.at p)) refl refl refl (f.peers p))
+      (answer_fine x parts h m.epoch m.begun m.jobs y p (answer e t) f.jobs (λ i.
+      let told = v (ap Ask_record i) in
+      let above : x.epoch < m.epoch = n i in
+      record { above = λ _. told.0; prepared = λ _. told.0; own = λ j. absurd (omega arith); ended = λ _ o. told.1 o })))
+  record_fine_by m p e t Ask f n v = unmatch m p f
+  record_fine_by m p e t (Claim w) f n v = f
+  record_fine_by m p e t (Sot y ps) f n v = f
+  record_fine_by m p e t (Mot y) f n v = f
+  record_fine_by m p e t (Eot y) f n v = f
+  record_fine_by m p e t (Trcomp y) f n v = f
+  record_fine_by m p e t (Abt y) f n v = f
+  record_fine_by m p e t Plain f n v = f
+  record_fine_by m p e t Malformed f n v = f
+
+  record_fine : (m : Master) (p : ℕ) (s : Stamp) (e : ℕ) (t : Seen) (w : Option Waiting) → MasterFine x parts h k m → ((t : Sent) → In t h.sent → SentFine x parts h t) → Unique h.sent → TellsFine x parts h p s e t → (m.at p).waits ≡ w → matches s true w ≡ true
+      → MasterFine x parts h k (record_told m p e t w)
+  record_fine m p s e t None f all u r w c = f
+  record_fine m p s e t (Some o) f all u r w c =
+      let v = matched m p s true o f all w c in
+      let body : r.body ≡ o.body = u p r.controller k s r.body o.body r.asked v.asked (r.kind ∙ sym (kind s true o c)) in
+      record_fine_by m p e t o.body f v.means (λ i. (r.told (body ∙ i), r.ended (body ∙ i)))
 
   unread_fine : (m : Master) (p : ℕ) (e : Option ℕ) → MasterFine x parts h k m → MasterFine x parts h k (unread_told m p e)
   unread_fine m p None f = unmatch m p f
@@ -155,10 +159,8 @@ module _ (x : Txn) (parts : List ℕ) (h : Past) (k : ℕ) where
   hears_fine m p (Request s b) f all u g = f
   hears_fine m p (Reply s code) f all u g = cond_all (MasterFine x parts h k) (matches s false (m.at p).waits) _ m (λ e. replied m p s code (m.at p).waits f all u g refl e) (λ _. f)
   hears_fine m p (Holds s e ns) f all u g =
-      cond_all (MasterFine x parts h k) (matches s true (m.at p).waits) _ m
-      (λ _. epoch_fine m (held_told m p ns (m.at p).waits) p e f (λ i. held_fine m p ns (m.at p).waits f (subst (λ v. AllOf (HeldFine x parts h v) ns) i g))) (λ _. f)
+      cond_all (MasterFine x parts h k) (matches s true (m.at p).waits) (held_told m p e ns (m.at p).waits) m (λ _. held_fine m p e ns (m.at p).waits f (λ i. subst (λ v. AllOf (HeldFine x parts h v) ns) i g)) (λ _. f)
   hears_fine m p (Tells s e t) f all u g =
-      cond_all (MasterFine x parts h k) (matches s true (m.at p).waits) _ m
-      (λ a. epoch_fine m (record_told m p e t (m.at p).waits) p e f (λ i. subst (λ v. MasterFine x parts h k (record_told m p v t (m.at p).waits)) (sym i) (record_fine m p s t (m.at p).waits f all u (subst (λ v. TellsFine x parts h p s v t) i g) refl a))) (λ _. f)
+      cond_all (MasterFine x parts h k) (matches s true (m.at p).waits) (record_told m p e t (m.at p).waits) m (λ c. record_fine m p s e t (m.at p).waits f all u g refl c) (λ _. f)
   hears_fine m p Other_up f all u g = f
   hears_fine m p Other_down f all u g = f

@@ -1,11 +1,11 @@
 -- One life makes a transaction, once, with one list of participants.
 use Rattle.std.proofs.Common.{◌≡◌, ℕ, ◌+◌, ◌*◌, ◌<◌, ◌≤◌, ◌&&◌, ◌||◌, ◌==◌, eqb-true, Bool, true, false, cond, nat_lt, List, [], ◌∷◌, Option, Some, None, is_some, inl, inr, ⊎_elim, refl, sym, ap, ◌∙◌, subst, arith}
 use Rattle.fc_protocol.specs.Agreement.{Agree, SettleOnce, Ready, OnePlan, Settled, SettledWhole, BegunOnce, SaysOnce, FollowsCore}
-use Rattle.fc_protocol.specs.Collections.{among}
+use Rattle.fc_protocol.specs.Collections.{put, among}
 use Rattle.fc_protocol.specs.Core.{start}
 use Rattle.fc_protocol.specs.ElementMachine.{Circumstance}
-use Rattle.fc_protocol.specs.Jobs.{all_settled, Job}
-use Rattle.fc_protocol.specs.MasterMachine.{Refusal, begin_refusal, plain_refusal, give_up_refusal, unread_told, Waiting, Master, new_master, at_put, due, sends_one, sends_all, heard, matches, coded, by_epoch, depose, is_lower, unmatched, held_by, held_told, record_by, record_told, begins, gives_up, decide_all, finish, Speaks}
+use Rattle.fc_protocol.specs.Jobs.{discover, on_job, answered_by, answer, all_settled, Job}
+use Rattle.fc_protocol.specs.MasterMachine.{after_ask, dropped, Refusal, begin_refusal, plain_refusal, give_up_refusal, unread_told, Waiting, Master, new_master, at_put, due, sends_one, sends_all, heard, matches, coded, by_epoch, depose, is_lower, unmatched, held_by, held_told, record_by, record_told, begins, gives_up, decide_all, finish, Speaks}
 use Rattle.fc_protocol.specs.Messages.{Malformed, Beat, Unread, sent, same, Body, Claim, Sot, Mot, Eot, Trcomp, Abt, Ask, Ask_record, Plain, Message, Setup, Request, Reply, Holds, Tells, Other_up, Other_down, Sent}
 use Rattle.fc_protocol.specs.WorldSteps.{Open, Give_up, Network, controller_of, World, Begun, Step, Deliver, Moment, Start, Stop, Begin, Change, Resend, murmurs, says, numbered, may_start, begin_by, give_up_by, change_by, change_at, first_world, with_begun, speaks, to_master, delivered, delivers, starts, begin_at, give_up_at, resend_at, happens, run}
 use Rattle.fc_protocol.specs.declared.answers.TxnEntry.{TxnEntry}
@@ -24,25 +24,28 @@ coded_alike : (m : Master) (p code : ℕ) (o : Option Waiting) → Alike m (code
 coded_alike m p code None = (refl, refl)
 coded_alike m p code (Some o) = (refl, refl)
 
-held_by_alike : (m : Master) (p : ℕ) (ns : List TxnEntry) (b : Body) → Alike m (held_by m p ns b)
-held_by_alike m p ns Ask = (refl, refl)
-held_by_alike m p ns (Ask_record y) = (refl, refl)
-held_by_alike m p ns (Claim w) = (refl, refl)
-held_by_alike m p ns (Sot y ps) = (refl, refl)
-held_by_alike m p ns (Mot y) = (refl, refl)
-held_by_alike m p ns (Eot y) = (refl, refl)
-held_by_alike m p ns (Trcomp y) = (refl, refl)
-held_by_alike m p ns (Abt y) = (refl, refl)
-held_by_alike m p ns Plain = (refl, refl)
-held_by_alike m p ns Malformed = (refl, refl)
+epoch_alike : (m n : Master) (p e : ℕ) → Alike m n → Alike m (by_epoch m p e n)
+epoch_alike m n p e a = cond_all (Alike m) (nat_lt m.epoch e) (depose m e) _ (λ _. (refl, refl)) (λ _. cond_all (Alike m) (is_lower m p e) (at_put m p (unmatched (m.at p))) n (λ _. (refl, refl)) (λ _. a))
 
-held_alike : (m : Master) (p : ℕ) (ns : List TxnEntry) (o : Option Waiting) → Alike m (held_told m p ns o)
-held_alike m p ns None = (refl, refl)
-held_alike m p ns (Some o) = held_by_alike m p ns o.body
+held_by_alike : (m : Master) (p e : ℕ) (ns : List TxnEntry) (b : Body) → Alike m (held_by m p e ns b)
+held_by_alike m p e ns Ask = epoch_alike m (record m { at = put m.at p (after_ask (m.at p)); jobs = discover ns m.jobs }) p e (refl, refl)
+held_by_alike m p e ns (Ask_record y) = (refl, refl)
+held_by_alike m p e ns (Claim w) = (refl, refl)
+held_by_alike m p e ns (Sot y ps) = (refl, refl)
+held_by_alike m p e ns (Mot y) = (refl, refl)
+held_by_alike m p e ns (Eot y) = (refl, refl)
+held_by_alike m p e ns (Trcomp y) = (refl, refl)
+held_by_alike m p e ns (Abt y) = (refl, refl)
+held_by_alike m p e ns Plain = (refl, refl)
+held_by_alike m p e ns Malformed = (refl, refl)
+
+held_alike : (m : Master) (p e : ℕ) (ns : List TxnEntry) (o : Option Waiting) → Alike m (held_told m p e ns o)
+held_alike m p e ns None = (refl, refl)
+held_alike m p e ns (Some o) = held_by_alike m p e ns o.body
 
 record_by_alike : (m : Master) (p e : ℕ) (t : Seen) (b : Body) → Alike m (record_by m p e t b)
 record_by_alike m p e t Ask = (refl, refl)
-record_by_alike m p e t (Ask_record y) = (refl, refl)
+record_by_alike m p e t (Ask_record y) = epoch_alike m (record m { at = put m.at p (dropped (m.at p)); jobs = on_job y (answered_by p (answer e t)) m.jobs }) p e (refl, refl)
 record_by_alike m p e t (Claim w) = (refl, refl)
 record_by_alike m p e t (Sot y ps) = (refl, refl)
 record_by_alike m p e t (Mot y) = (refl, refl)
@@ -56,9 +59,6 @@ record_alike : (m : Master) (p e : ℕ) (t : Seen) (o : Option Waiting) → Alik
 record_alike m p e t None = (refl, refl)
 record_alike m p e t (Some o) = record_by_alike m p e t o.body
 
-epoch_alike : (m n : Master) (p e : ℕ) → Alike m n → Alike m (by_epoch m p e n)
-epoch_alike m n p e a = cond_all (Alike m) (nat_lt m.epoch e) (depose m e) _ (λ _. (refl, refl)) (λ _. cond_all (Alike m) (is_lower m p e) (at_put m p (unmatched (m.at p))) n (λ _. (refl, refl)) (λ _. a))
-
 unread_alike : (m : Master) (p : ℕ) (e : Option ℕ) → Alike m (unread_told m p e)
 unread_alike m p None = (refl, refl)
 unread_alike m p (Some e) = epoch_alike m (at_put m p (unmatched (m.at p))) p e (refl, refl)
@@ -69,8 +69,8 @@ heard_alike m p Beat = (refl, refl)
 heard_alike m p (Unread s e) = cond_all (Alike m) (matches s true (m.at p).waits) (unread_told m p e) m (λ _. unread_alike m p e) (λ _. (refl, refl))
 heard_alike m p (Request s b) = (refl, refl)
 heard_alike m p (Reply s code) = cond_all (Alike m) (matches s false (m.at p).waits) _ m (λ _. coded_alike m p code (m.at p).waits) (λ _. (refl, refl))
-heard_alike m p (Holds s e ns) = cond_all (Alike m) (matches s true (m.at p).waits) _ m (λ _. epoch_alike m _ p e (held_alike m p ns (m.at p).waits)) (λ _. (refl, refl))
-heard_alike m p (Tells s e t) = cond_all (Alike m) (matches s true (m.at p).waits) _ m (λ _. epoch_alike m _ p e (record_alike m p e t (m.at p).waits)) (λ _. (refl, refl))
+heard_alike m p (Holds s e ns) = cond_all (Alike m) (matches s true (m.at p).waits) (held_told m p e ns (m.at p).waits) m (λ _. held_alike m p e ns (m.at p).waits) (λ _. (refl, refl))
+heard_alike m p (Tells s e t) = cond_all (Alike m) (matches s true (m.at p).waits) (record_told m p e t (m.at p).waits) m (λ _. record_alike m p e t (m.at p).waits) (λ _. (refl, refl))
 heard_alike m p Other_up = (refl, refl)
 heard_alike m p Other_down = (refl, refl)
 

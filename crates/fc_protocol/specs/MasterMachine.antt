@@ -140,23 +140,24 @@ by_epoch m p e good = if nat_lt m.epoch e then depose m e else (if is_lower m p 
 abbrev pub after_ask : Peer → Peer
 after_ask y = record y { waits = None; doubt = false; answered = true }
 
--- what the answer to an ask says, by what was asked
-abbrev pub held_by : Master → ℕ → List TxnEntry → Body → Master
-held_by m p ns (Claim w) = m
-held_by m p ns (Sot x ps) = m
-held_by m p ns (Mot x) = m
-held_by m p ns (Eot x) = m
-held_by m p ns (Trcomp x) = m
-held_by m p ns (Abt x) = m
-held_by m p ns Malformed = m
-held_by m p ns Plain = m
-held_by m p ns Ask = record m { at = put m.at p (after_ask (m.at p)); jobs = discover ns m.jobs }
-held_by m p ns (Ask_record x) = at_put m p (unmatched (m.at p))
+-- what the answer to an ask says, where that was asked; an answer to another Query does not read
+abbrev pub held_by : Master → ℕ → ℕ → List TxnEntry → Body → Master
+held_by m p e ns (Claim w) = m
+held_by m p e ns (Sot x ps) = m
+held_by m p e ns (Mot x) = m
+held_by m p e ns (Eot x) = m
+held_by m p e ns (Trcomp x) = m
+held_by m p e ns (Abt x) = m
+held_by m p e ns Malformed = m
+held_by m p e ns Plain = m
+held_by m p e ns Ask = by_epoch m p e (record m { at = put m.at p (after_ask (m.at p)); jobs = discover ns m.jobs })
+held_by m p e ns (Ask_record x) = at_put m p (unmatched (m.at p))
 
-abbrev pub held_told : Master → ℕ → List TxnEntry → Option Waiting → Master
-held_told m p ns None = m
-held_told m p ns (Some o) = held_by m p ns o.body
+abbrev pub held_told : Master → ℕ → ℕ → List TxnEntry → Option Waiting → Master
+held_told m p e ns None = m
+held_told m p e ns (Some o) = held_by m p e ns o.body
 
+-- what the answer to a record ask says, where that was asked
 abbrev pub record_by : Master → ℕ → ℕ → Seen → Body → Master
 record_by m p e s (Claim w) = m
 record_by m p e s (Sot x ps) = m
@@ -167,7 +168,7 @@ record_by m p e s (Abt x) = m
 record_by m p e s Malformed = m
 record_by m p e s Plain = m
 record_by m p e s Ask = at_put m p (unmatched (m.at p))
-record_by m p e s (Ask_record x) = record m { at = put m.at p (dropped (m.at p)); jobs = on_job x (answered_by p (answer e s)) m.jobs }
+record_by m p e s (Ask_record x) = by_epoch m p e (record m { at = put m.at p (dropped (m.at p)); jobs = on_job x (answered_by p (answer e s)) m.jobs })
 
 abbrev pub record_told : Master → ℕ → ℕ → Seen → Option Waiting → Master
 record_told m p e s None = m
@@ -184,8 +185,8 @@ heard m p Setup = if among p m.elements then at_put m p (record (m.at p) { met =
 heard m p Beat = m
 heard m p (Request s b) = m
 heard m p (Reply s code) = if matches s false (m.at p).waits then coded m p code (m.at p).waits else m
-heard m p (Holds s e ns) = if matches s true (m.at p).waits then by_epoch m p e (held_told m p ns (m.at p).waits) else m
-heard m p (Tells s e t) = if matches s true (m.at p).waits then by_epoch m p e (record_told m p e t (m.at p).waits) else m
+heard m p (Holds s e ns) = if matches s true (m.at p).waits then held_told m p e ns (m.at p).waits else m
+heard m p (Tells s e t) = if matches s true (m.at p).waits then record_told m p e t (m.at p).waits else m
 heard m p (Unread s e) = if matches s true (m.at p).waits then unread_told m p e else m
 heard m p Other_up = m
 heard m p Other_down = m
