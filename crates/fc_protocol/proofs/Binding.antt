@@ -1,11 +1,11 @@
 -- Each step of the world is moves of the core.
-use Rattle.std.proofs.Common.{◌≡◌, ℕ, ◌+◌, ◌*◌, ◌%◌, zero, suc, ◌<◌, ◌≤◌, ◌==◌, ◌&&◌, ◌||◌, not, Bool, true, false, cond, nat_lt, List, [], ◌∷◌, ◌++◌, append_assoc, map, Option, Some, None, is_none, is_some, ◌⊎◌, inl, inr, ⊎_elim, refl, sym, ap, ◌∙◌, subst, arith, eqb-true, eq-eqb}
-use Rattle.fc_protocol.specs.Agreement.{decision_of}
+use Rattle.std.proofs.Common.{◌≡◌, ℕ, ◌+◌, ◌*◌, ◌%◌, ◌^◌, zero, suc, ◌<◌, ◌≤◌, ◌==◌, ◌&&◌, ◌||◌, not, Bool, true, false, cond, nat_lt, List, [], ◌∷◌, ◌++◌, append_assoc, map, Option, Some, None, is_none, is_some, ◌⊎◌, inl, inr, ⊎_elim, refl, sym, ap, ◌∙◌, subst, arith, eqb-true, eq-eqb}
+use Rattle.fc_protocol.specs.Agreement.{decision_of, Bounded}
 use Rattle.fc_protocol.specs.Collections.{among, put, or_next}
 use Rattle.fc_protocol.specs.Core.{Core, Move, moves, start}
 use Rattle.fc_protocol.specs.ElementMachine.{Circumstance, hears}
 use Rattle.fc_protocol.specs.Jobs.{Job, find, decided_job, new_job, given_up}
-use Rattle.fc_protocol.specs.MasterMachine.{Refusal, begin_refusal, plain_refusal, give_up_refusal, Waiting, Peer, Master, new_master, decide_all, due, sends_one, sends_all, heard, again, at_once, finish, begins, gives_up}
+use Rattle.fc_protocol.specs.MasterMachine.{last_count, count_of, Refusal, begin_refusal, plain_refusal, give_up_refusal, Waiting, Peer, Master, new_master, decide_all, due, sends_one, sends_all, heard, again, at_once, finish, begins, gives_up}
 use Rattle.fc_protocol.specs.Messages.{Trcomp, Abt, Beat, Unread, same, Stamp, Body, Message, Setup, Request, Reply, Holds, Tells, Other_up, Other_down, Plain, Sent, sent}
 use Rattle.fc_protocol.specs.Records.{seen, state_of}
 use Rattle.fc_protocol.specs.Trace.{Fact, Opened_at, Prepared_at, Settled_at}
@@ -17,12 +17,13 @@ use Rattle.fc_base.specs.Ids.{Txn}
 use Rattle.fc_protocol.proofs.Puts.{put_here, both_first, both_second}
 use Rattle.fc_protocol.proofs.Basics.{In, in_left, in_either, in_get, cond_false, all_in, all_on, both, same_true, same_of, put_other, put_rest, none_some, some_same}
 use Rattle.fc_protocol.proofs.Facts.{Past, past, Lives, Unique, Born, Named, SentFine, RequestFine, MessageFine, JobFine, PeerFine, MasterFine, LifeFine, Tied, Later, el_on, job_on, lives_on, Marks, GoodFact, GoodFacts, done}
-use Rattle.fc_protocol.proofs.Hearing.{went}
+use Rattle.fc_protocol.proofs.Hearing.{Low, went}
 use Rattle.fc_protocol.proofs.Telling.{life_on, sent_on, later_more, element_tied}
 use Rattle.fc_protocol.proofs.Keeps.{agree}
 use Rattle.fc_protocol.proofs.Jobs.{found_in, jobs_add}
 use Rattle.fc_protocol.proofs.Hears.{cond_all, hears_fine}
 use Rattle.fc_protocol.proofs.Deciding.{Decided, decide_fine, give_up_fine, later_ruled}
+use Rattle.fc_protocol.proofs.Calls.{begin_low, plain_low}
 use Rattle.fc_protocol.proofs.Sending.{Due, due_means, the_request, with_request, later_request, request_either, request_fine, unique_request, sends_fine}
 
 append_none : {A : Type 0} (xs : List A) → xs ++ [] ≡ xs
@@ -71,11 +72,11 @@ named_low : (ks : List ℕ) (c : ℕ) → is_some (controller_of ks c) ≡ true 
 named_low [] c e = cc
 named_low (k ∷ ks) c e = ⊎_elim (λ u. let v : k % 256 ≡ c = eqb-true (k % 256) c u in omega arith) (λ u. named_low ks c (sym (ap is_some (cond_false (k % 256 == c) (Some k) (controller_of ks c) u)) ∙ e)) (both (k % 256 == c))
 
-pub may_start_is : (w : World) (k r : ℕ) → may_start w k r ≡ true → (k < 256) × (among r (w.used k) ≡ false)
+pub may_start_is : (w : World) (k r : ℕ) → may_start w k r ≡ true → (k < 256) × (r < 2 ^ 24) × (among r (w.used k) ≡ false)
 may_start_is w k r e =
     let named = both_first (is_some (controller_of w.network.controllers k) && is_round r) _ e in
     let free = both_second (is_some (controller_of w.network.controllers k) && is_round r) _ e in
-    (named_low w.network.controllers k (both_first (is_some (controller_of w.network.controllers k)) _ named), not_false _ (both_second (is_none (w.masters k)) _ free))
+    (named_low w.network.controllers k (both_first (is_some (controller_of w.network.controllers k)) _ named), below _ _ (both_second (nat_lt 0 r) _ (both_second (is_some (controller_of w.network.controllers k)) _ named)), not_false _ (both_second (is_none (w.masters k)) _ free))
 
 in_numbered : (s : Sent) (ss : List Sent) (i : ℕ) → numbered ss i ≡ Some s → In s ss
 in_numbered s ss zero e = cc
@@ -133,7 +134,7 @@ module _ (x : Txn) (parts : List ℕ) where
         reached = d.ruled.reached t.reached;
         elements = λ q. el_on x parts h g l q (w.at q) (c.at q) (d.core.at q) (d.ruled.at q) (t.elements q);
         masters = put_rest (LifeFine x parts g) w.masters k (Some (record m { jobs = js }))
-            (record { life = f.life; jobs = d.jobs; peers = λ q. record { waits = (f.peers q).waits; counts = (f.peers q).counts } })
+            (record { life = f.life; low = f.low; jobs = d.jobs; peers = λ q. record { low = (f.peers q).low; waits = (f.peers q).waits; counts = (f.peers q).counts } })
             (λ j n. life_on x parts h g l j (w.masters j) (λ v e. record {
               decided = d.ruled.others v.epoch (other_life h j k v m (master_is h j (w.masters j) v e (other_of w c k m ss t j n)) f n);
               asked = λ p i s b a _. a;
@@ -149,18 +150,19 @@ module _ (x : Txn) (parts : List ℕ) where
       }
 
   -- one message that is due
-  send_tied : (w : World) (c : Core) (k : ℕ) (m : Master) (ss : List Sent) (p : ℕ) (o : Option Body) → Tied x parts (with_master w k m ss) c → ((b : Body) → o ≡ Some b → Due x parts (past (with_master w k m ss) c) m.epoch p b) → Tied x parts (with_master w k (sends_one k m p o).master (ss ++ (sends_one k m p o).says)) c
+  send_tied : (w : World) (c : Core) (k : ℕ) (m : Master) (ss : List Sent) (p : ℕ) (o : Option Body) → Tied x parts (with_master w k m ss) c → ((b : Body) → o ≡ Some b → Due x parts (past (with_master w k m ss) c) m.epoch p b × (count_of b (m.at p) < last_count)) → Tied x parts (with_master w k (sends_one k m p o).master (ss ++ (sends_one k m p o).says)) c
   send_tied w c k m ss p None t e = subst (λ v. Tied x parts (with_master w k m v) c) (sym (append_none ss)) t
   send_tied w c k m ss p (Some b) t e =
       let h = past (with_master w k m ss) c in
       let g = with_request x parts h k m p b in
       let f = master_of w c k m ss t in
-      let d = e b refl in
+      let d = (e b refl).0 in
+      let r = (e b refl).1 in
       let l = later_request x parts h k m p b in
       record {
         reached = t.reached;
         elements = λ q. el_on x parts h g l q (w.at q) (c.at q) (c.at q) refl (t.elements q);
-        masters = put_rest (LifeFine x parts g) w.masters k (Some (sends_one k m p (Some b)).master) (sends_fine x parts h k m p b f)
+        masters = put_rest (LifeFine x parts g) w.masters k (Some (sends_one k m p (Some b)).master) (sends_fine x parts h k m p b f r)
             (λ j n. life_on x parts h g l j (w.masters j) (λ v i. record {
               decided = refl;
               asked = λ q r s a z y. ⊎_elim (λ old. old) (λ new.
@@ -170,7 +172,7 @@ module _ (x : Txn) (parts : List ℕ) where
               born = λ _ u. u;
             }) (other_of w c k m ss t j n));
         sent = λ s i. ⊎_elim (λ old. sent_on x parts h g l s (t.sent s old))
-            (λ new. sent_on x parts h g l s (subst (SentFine x parts h) (sym new) (request_fine x parts h k m p b f d))) (request_either x parts h k m p b s i);
+            (λ new. sent_on x parts h g l s (subst (SentFine x parts h) (sym new) (request_fine x parts h k m p b f d r))) (request_either x parts h k m p b s i);
         unique = unique_request x parts h k m p b f t.sent d t.unique;
         decided = t.decided;
         owner = t.owner;
@@ -271,11 +273,14 @@ module _ (x : Txn) (parts : List ℕ) where
       let f = hears_fine x parts h k m p i (master_of w c k m (w.sent ++ first) b) b.sent b.unique (b.sent (sent p k i) (in_left _ w.sent first n)) in
       speak_tied w c k (heard m p i) first (swap w c k m (heard m p i) (w.sent ++ first) b f)
 
+  request_low : (h : Past) (k p : ℕ) (s : Stamp) (b : Body) → RequestFine x parts h k p s b → Low s
+  request_low h k p s b f = let l = f.life in let e : s.life ≡ 256 * l.0 + k = l.2 in let i : k < 256 = l.3 in let j : l.0 < 2 ^ 24 = l.4 in (omega arith, f.low)
+
   delivered_tied : (w : World) (c : Core) (ok : Circumstance) (p k : ℕ) (i : Message) → Tied x parts w c → In (sent p k i) w.sent → Goes (delivered w ok p k i)
   delivered_tied w c ok p k Setup t n = to_master_tied w c p k Setup (w.masters k) t refl n
   delivered_tied w c ok p k (Request s b) t n =
       let r : RequestFine x parts (past w c) k p s b = t.sent (sent p k (Request s b)) n in
-      let u = went x parts (past w c) w.facts p k (sender w k) (w.at p) ok s b (record { reached = t.reached; marks = t.marks; good = t.good }) (t.elements p) n r.means in
+      let u = went x parts (past w c) w.facts p k (sender w k) (w.at p) ok s b (request_low (past w c) k p s b r) (record { reached = t.reached; marks = t.marks; good = t.good }) (t.elements p) n r.means in
       let heard = hears p (w.at p) (sender w k) ok s b in
       (u.core, murmurs_tied (to_element w p k heard) u.core p ok.others (element_tied x parts w c p k heard t u))
   delivered_tied w c ok p k (Reply s b) t n = to_master_tied w c p k (Reply s b) (w.masters k) t refl n
@@ -291,8 +296,8 @@ module _ (x : Txn) (parts : List ℕ) where
   delivers_tied w c ok i (Some s) t e = delivered_tied w c ok s.element s.controller s.message t (in_numbered s w.sent i e)
 
   -- a life begins
-  start_tied : (w : World) (c : Core) (k r : ℕ) → Tied x parts w c → k < 256 → among r (w.used k) ≡ false → Tied x parts (starts w k r) c
-  start_tied w c k r t small new =
+  start_tied : (w : World) (c : Core) (k r : ℕ) → Tied x parts w c → k < 256 → r < 2 ^ 24 → among r (w.used k) ≡ false → Tied x parts (starts w k r) c
+  start_tied w c k r t small few new =
       let h = past w c in
       let g = past (starts w k r) c in
       let e = 256 * r + k in
@@ -305,13 +310,14 @@ module _ (x : Txn) (parts : List ℕ) where
         born = λ b. b;
       } in
       let fresh = λ (j : ℕ) (v : Lives h j e). fresh_life w c k r j small new v in
-      let life : Lives g k e = (r, subst (In r) (sym (put_here w.used k (r ∷ w.used k))) (inl refl), refl, small) in
+      let life : Lives g k e = (r, subst (In r) (sym (put_here w.used k (r ∷ w.used k))) (inl refl), refl, small, few) in
       record {
         reached = t.reached;
         elements = λ q. el_on x parts h g l q (w.at q) (c.at q) (c.at q) refl (t.elements q);
         masters = put_rest (LifeFine x parts g) w.masters k (Some (new_master e w.network.elements))
             (record {
               life = life;
+              low = omega arith;
               jobs = record {
                 decided = none_or (c.decided e) (λ d i. let v = t.decided e d i in fresh v.0 v.1);
                 each = tt;
@@ -319,6 +325,7 @@ module _ (x : Txn) (parts : List ℕ) where
                 numbers = λ i b. let v = t.owner b in absurd (fresh v.0 (subst (Lives h v.0) (sym i) v.1));
               };
               peers = λ q. record {
+                low = (omega arith, omega arith);
                 waits = λ o i. none_some o i;
                 counts = λ j s b a i. let f : RequestFine x parts h j q s b = t.sent (sent q j (Request s b)) a in absurd (fresh j (subst (Lives h j) i f.life));
               };
@@ -355,9 +362,9 @@ module _ (x : Txn) (parts : List ℕ) where
   or_some (Some j) t e = refl
 
   -- a transaction is begun
-  begin_tied : (w : World) (c : Core) (k : ℕ) (m : Master) (ps : List ℕ) (changes : ℕ → ℕ) (y : Txn) → y ≡ record { epoch = m.epoch; number = m.begun + 1 } → Tied x parts (with_master w k m w.sent) c → Named x parts (record { txn = y; parts = ps } ∷ w.begun)
+  begin_tied : (w : World) (c : Core) (k : ℕ) (m : Master) (ps : List ℕ) (changes : ℕ → ℕ) (y : Txn) → m.begun + 1 ≤ last_count → y ≡ record { epoch = m.epoch; number = m.begun + 1 } → Tied x parts (with_master w k m w.sent) c → Named x parts (record { txn = y; parts = ps } ∷ w.begun)
       → Tied x parts (with_master (with_begun w (record { txn = y; parts = ps })) k (record m { begun = m.begun + 1; jobs = m.jobs ++ new_job y ps changes ∷ [] }) w.sent) c
-  begin_tied w c k m ps changes y made t named =
+  begin_tied w c k m ps changes y room made t named =
       let b : Begun = record { txn = y; parts = ps } in
       let n = record m { begun = m.begun + 1; jobs = m.jobs ++ new_job y ps changes ∷ [] } in
       let h = past w c in
@@ -373,6 +380,7 @@ module _ (x : Txn) (parts : List ℕ) where
         masters = put_rest (LifeFine x parts g) w.masters k (Some n)
             (record {
               life = f.life;
+              low = room;
               jobs = jobs_add x parts g m.epoch (m.begun + 1) m.jobs (new_job y ps changes) (all_on _ _ m.jobs (job_on x parts h g l m.epoch) f.jobs.each) f.jobs.once f.jobs.decided refl
                   (λ s. none_or (find x m.jobs) (λ j i.
                   let u : y ≡ x = sym (same_true x y s) in
@@ -392,7 +400,7 @@ module _ (x : Txn) (parts : List ℕ) where
                   })
                   (λ i o. ⊎_elim (λ u. let now : m.begun + 1 ≡ x.number = number u in (omega arith, some_or (same x y) (find x m.jobs) (new_job y ps changes) (same_of x y (sym u))))
                   (λ u. let v = f.jobs.numbers i u in let low : x.number ≤ m.begun = v.0 in (omega arith, or_some (find x m.jobs) _ v.1)) (born_or o));
-              peers = λ q. record { waits = (f.peers q).waits; counts = (f.peers q).counts };
+              peers = λ q. record { low = (f.peers q).low; waits = (f.peers q).waits; counts = (f.peers q).counts };
             })
             (λ j d. life_on x parts h g l j (w.masters j) (λ v i. record {
               decided = refl;
@@ -410,16 +418,16 @@ module _ (x : Txn) (parts : List ℕ) where
   silent : (w : World) (c : Core) (k : ℕ) (m : Master) → Tied x parts (with_master w k m w.sent) c → Tied x parts (with_master w k m (w.sent ++ [])) c
   silent w c k m t = subst (λ v. Tied x parts (with_master w k m v) c) (sym (append_none w.sent)) t
 
-  begin_by_tied : (w : World) (c : Core) (k : ℕ) (ps : List ℕ) (changes : ℕ → ℕ) (m : Master) (r : Option Refusal) → Tied x parts w c → w.masters k ≡ Some m → Named x parts (begin_by w k ps changes m r).begun → Goes (begin_by w k ps changes m r)
-  begin_by_tied w c k ps changes m (Some r) t e n = (c, t)
-  begin_by_tied w c k ps changes m None t e n =
+  begin_by_tied : (w : World) (c : Core) (k : ℕ) (ps : List ℕ) (changes : ℕ → ℕ) (m : Master) (r : Option Refusal) → begin_refusal m ps changes ≡ r → Tied x parts w c → w.masters k ≡ Some m → Named x parts (begin_by w k ps changes m r).begun → Goes (begin_by w k ps changes m r)
+  begin_by_tied w c k ps changes m (Some r) q t e n = (c, t)
+  begin_by_tied w c k ps changes m None q t e n =
       let b : Begun = record { txn = record { epoch = m.epoch; number = m.begun + 1 }; parts = ps } in
-      let u = begin_tied w c k m ps changes b.txn refl (enter w c k m t e) n in
+      let u = begin_tied w c k m ps changes b.txn (begin_low m ps changes q) refl (enter w c k m t e) n in
       speak_tied (with_begun w b) c k (begins m ps changes) [] (silent (with_begun w b) c k (begins m ps changes) u)
 
   begin_at_tied : (w : World) (c : Core) (k : ℕ) (ps : List ℕ) (changes : ℕ → ℕ) (o : Option Master) → Tied x parts w c → w.masters k ≡ o → Named x parts (begin_at w k ps changes o).begun → Goes (begin_at w k ps changes o)
   begin_at_tied w c k ps changes None t e n = (c, t)
-  begin_at_tied w c k ps changes (Some m) t e n = begin_by_tied w c k ps changes m (begin_refusal m ps changes) t e n
+  begin_at_tied w c k ps changes (Some m) t e n = begin_by_tied w c k ps changes m (begin_refusal m ps changes) refl t e n
 
   give_up_by_tied : (w : World) (c : Core) (k : ℕ) (y : Txn) (m : Master) (r : Option Refusal) → Tied x parts w c → w.masters k ≡ Some m → Goes (give_up_by w k y m r)
   give_up_by_tied w c k y m (Some r) t e = (c, t)
@@ -443,14 +451,14 @@ module _ (x : Txn) (parts : List ℕ) where
   open_tied w c p k t = repeat_tied w c (sent p k Setup ∷ []) t (λ s i. ⊎_elim (λ e. inr (inl (ap (λ (v : Sent). v.message) e))) (λ n. absurd n) i)
 
   -- a plain change is sent at once
-  change_by_tied : (w : World) (c : Core) (k p : ℕ) (m : Master) (r : Option Refusal) → Tied x parts w c → w.masters k ≡ Some m → Tied x parts (change_by w k p m r) c
-  change_by_tied w c k p m (Some r) t e = t
-  change_by_tied w c k p m None t e =
-      send_tied w c k m (w.sent ++ []) p (Some Plain) (silent w c k m (enter w c k m t e)) (λ b i. subst (Due x parts (past (with_master w k m (w.sent ++ [])) c) m.epoch p) (some_same _ _ i) (tt, (λ u. cc)))
+  change_by_tied : (w : World) (c : Core) (k p : ℕ) (m : Master) (r : Option Refusal) → plain_refusal m p ≡ r → Tied x parts w c → w.masters k ≡ Some m → Tied x parts (change_by w k p m r) c
+  change_by_tied w c k p m (Some r) q t e = t
+  change_by_tied w c k p m None q t e =
+      send_tied w c k m (w.sent ++ []) p (Some Plain) (silent w c k m (enter w c k m t e)) (λ b i. subst (λ v. Due x parts (past (with_master w k m (w.sent ++ [])) c) m.epoch p v × (count_of v (m.at p) < last_count)) (some_same _ _ i) ((tt, (λ u. cc)), plain_low m p q))
 
   change_at_tied : (w : World) (c : Core) (k p : ℕ) (o : Option Master) → Tied x parts w c → w.masters k ≡ o → Tied x parts (change_at w k p o) c
   change_at_tied w c k p None t e = t
-  change_at_tied w c k p (Some m) t e = change_by_tied w c k p m (plain_refusal m p) t e
+  change_at_tied w c k p (Some m) t e = change_by_tied w c k p m (plain_refusal m p) refl t e
 
   pub happens_tied : (w : World) (c : Core) (s : Step) → Named x parts (happens w s).begun → Tied x parts w c → Goes (happens w s)
   happens_tied w c (Open p k) n t =
@@ -458,7 +466,7 @@ module _ (x : Txn) (parts : List ℕ) where
   happens_tied w c (Moment p ks) n t = cond_all Goes (among p w.network.elements) (says w (murmurs p ks)) w (λ _. (c, murmurs_tied w c p ks t)) (λ _. (c, t))
   happens_tied w c (Change k p) n t = (c, change_at_tied w c k p (w.masters k) t refl)
   happens_tied w c (Deliver i ok) n t = delivers_tied w c ok i (numbered w.sent i) t refl
-  happens_tied w c (Start k r) n t = cond_all Goes (may_start w k r) (starts w k r) w (λ e. let v = may_start_is w k r e in (c, start_tied w c k r t v.0 v.1)) (λ _. (c, t))
+  happens_tied w c (Start k r) n t = cond_all Goes (may_start w k r) (starts w k r) w (λ e. let v = may_start_is w k r e in (c, start_tied w c k r t v.0 v.1 v.2)) (λ _. (c, t))
   happens_tied w c (Stop k) n t = (c, stop_tied w c k t)
   happens_tied w c (Begin k ps changes) n t = begin_at_tied w c k ps changes (w.masters k) t refl n
   happens_tied w c (Give_up k y) n t = give_up_at_tied w c k y (w.masters k) t refl
@@ -467,7 +475,7 @@ module _ (x : Txn) (parts : List ℕ) where
   pub first_tied : (net : Network) → Tied x parts (first_world net) start
   first_tied net = record {
     reached = ([], refl);
-    elements = λ p. record { epoch = refl; state = refl; entries = tt; single = tt; kept = tt };
+    elements = λ p. record { epoch = refl; state = refl; entries = tt; single = tt; kept = tt; low = (omega arith, omega arith) };
     masters = λ _. tt;
     sent = λ s i. absurd i;
     unique = λ p j k s a b i n e. absurd i;
@@ -610,3 +618,30 @@ module _ (x : Txn) (parts : List ℕ) where
       let here : Follows w c = ((λ p. (sym (t.elements p).epoch, sym (t.elements p).state)), (λ k m e. (master_is (past w c) k (w.masters k) m e (t.masters k)).jobs.decided)) in
       let there : Follows w (moves x.epoch parts t.reached.0 start) = subst (Follows w) (sym t.reached.1) here in
       (parts, t.reached.0, there.0, there.1)
+
+  -- all numbers fit in their 32 bits
+  pub bounded : (w : World) → Goes w → Bounded w
+  bounded w u =
+      let c = u.0 in
+      let t = u.1 in (
+        (λ p k m b i.
+            let f : RequestFine x parts (past w c) k p m b = t.sent (sent p k (Request m b)) i in
+            let l : m.life < 2 ^ 32 = (request_low (past w c) k p m b f).0 in
+            let n : m.count ≤ last_count = f.low in
+            (l, omega arith)),
+        (λ p. let l = (t.elements p).low in let n : (w.at p).sequence ≤ last_count = l.1 in (l.0, omega arith)),
+        (λ k m e.
+            let f = master_is (past w c) k (w.masters k) m e (t.masters k) in
+            let n : m.begun ≤ last_count = f.low in
+            let g : m.epoch ≡ 256 * f.life.0 + k = f.life.2 in
+            let i : k < 256 = f.life.3 in
+            let j : f.life.0 < 2 ^ 24 = f.life.4 in (
+              omega arith,
+              omega arith,
+              (λ p.
+                  let l = (f.peers p).low in
+                  let a : (m.at p).last ≤ last_count = l.0 in
+                  let b : (m.at p).queries ≤ last_count = l.1 in
+                  (omega arith, omega arith)),
+            )),
+      )

@@ -1,11 +1,11 @@
 -- What holds in every world, for one transaction x with these participants.
-use Rattle.std.proofs.Common.{◌≡◌, ◌≢◌, ℕ, ◌+◌, ◌*◌, ◌<◌, ◌≤◌, Bool, true, false, cond, List, [], ◌∷◌, Option, Some, None, is_some, refl, sym, ap, ◌∙◌}
+use Rattle.std.proofs.Common.{◌≡◌, ◌≢◌, ℕ, ◌+◌, ◌*◌, ◌^◌, ◌<◌, ◌≤◌, Bool, true, false, cond, List, [], ◌∷◌, Option, Some, None, is_some, refl, sym, ap, ◌∙◌}
 use Rattle.fc_protocol.specs.Agreement.{decision_of}
 use Rattle.fc_protocol.specs.Collections.{among}
 use Rattle.fc_protocol.specs.Core.{Note, Element, Core}
 use Rattle.fc_protocol.specs.ElementMachine.{ElementState}
 use Rattle.fc_protocol.specs.Jobs.{Job, find}
-use Rattle.fc_protocol.specs.MasterMachine.{Waiting, Peer, Master, count_of}
+use Rattle.fc_protocol.specs.MasterMachine.{last_count, Waiting, Peer, Master, count_of}
 use Rattle.fc_protocol.specs.Messages.{Malformed, Beat, Unread, same, Stamp, Body, Claim, Sot, Mot, Eot, Trcomp, Abt, Ask, Ask_record, Plain, is_query, Message, Setup, Request, Reply, Holds, Tells, Other_up, Other_down, Sent, sent}
 use Rattle.fc_protocol.specs.Records.{is_held, seen, state_of}
 use Rattle.fc_protocol.specs.Trace.{Fact, Opened_at, Prepared_at, Settled_at, Claimed_at}
@@ -32,7 +32,7 @@ past w c = record { core = c; sent = w.sent; used = w.used; begun = w.begun }
 
 -- e is the epoch of a life of k
 abbrev pub Lives : Past → ℕ → ℕ → Type 0
-Lives h k e = (r : ℕ) × In r (h.used k) × (e ≡ 256 * r + k) × (k < 256)
+Lives h k e = (r : ℕ) × In r (h.used k) × (e ≡ 256 * r + k) × (k < 256) × (r < 2 ^ 24)
 
 abbrev pub Asked : Past → ℕ → ℕ → Stamp → Body → Type 0
 Asked h p k s b = In (sent p k (Request s b)) h.sent
@@ -90,6 +90,7 @@ module _ (x : Txn) (parts : List ℕ) where
 
   pub record RequestFine (h : Past) (k p : ℕ) (s : Stamp) (b : Body) : Type 0 where
     pub life : Lives h k s.life
+    pub low : s.count ≤ last_count
     pub first : s.count ≡ 0 → b ≡ Claim s.life
     pub means : Means h s.life p b
 
@@ -167,6 +168,7 @@ module _ (x : Txn) (parts : List ℕ) where
     pub entries : AllOf (EntryFine h el.epoch) el.records
     pub single : Single el.records
     pub kept : KeptFine h p el.kept
+    pub low : (el.epoch < 2 ^ 32) × (el.sequence ≤ last_count)
 
   pub record AnswerFine (h : Past) (e p : ℕ) (a : Answer) : Type 0 where
     pub above : x.epoch < e → Told h.core.notes (note a.epoch p a.seen)
@@ -198,11 +200,13 @@ module _ (x : Txn) (parts : List ℕ) where
     pub numbers : e ≡ x.epoch → Born h → (x.number ≤ begun) × (is_some (find x js) ≡ true)
 
   pub record PeerFine (h : Past) (k e p : ℕ) (y : Peer) : Type 0 where
+    pub low : (y.last ≤ last_count) × (y.queries ≤ last_count)
     pub waits : (o : Waiting) → y.waits ≡ Some o → (o.stamp.life ≡ e) × Asked h p k o.stamp o.body
     pub counts : (j : ℕ) (s : Stamp) (b : Body) → Asked h p j s b → s.life ≡ e → s.count ≤ count_of b y
 
   pub record MasterFine (h : Past) (k : ℕ) (m : Master) : Type 0 where
     pub life : Lives h k m.epoch
+    pub low : m.begun ≤ last_count
     pub jobs : JobsFine h m.epoch m.begun m.jobs
     pub peers : (p : ℕ) → PeerFine h k m.epoch p (m.at p)
 
@@ -239,7 +243,7 @@ module _ (x : Txn) (parts : List ℕ) where
 
   module _ (h g : Past) (l : Later h g) where
     pub lives_on : (k e : ℕ) → Lives h k e → Lives g k e
-    lives_on k e t = (t.0, l.used k t.0 t.1, t.2, t.3)
+    lives_on k e t = (t.0, l.used k t.0 t.1, t.2, t.3, t.4)
 
     pub means_on : (e p : ℕ) (b : Body) → Means h e p b → Means g e p b
     means_on e p (Claim w) m = tt
@@ -264,7 +268,7 @@ module _ (x : Txn) (parts : List ℕ) where
 
     pub message_on : (p k : ℕ) (m : Message) → MessageFine h p k m → MessageFine g p k m
     message_on p k Setup f = tt
-    message_on p k (Request s b) f = record { life = lives_on k s.life f.life; first = f.first; means = means_on s.life p b f.means }
+    message_on p k (Request s b) f = record { life = lives_on k s.life f.life; low = f.low; first = f.first; means = means_on s.life p b f.means }
     message_on p k (Reply s code) f = reply_on p s code f
     message_on p k (Holds s e ns) f = all_on (HeldFine h e) (HeldFine g e) ns (held_on e) f
     message_on p k (Tells s e t) f = record { body = f.body; controller = f.controller; asked = l.sent _ f.asked; kind = f.kind; told = λ e. l.told _ (f.told e); ended = λ e i. l.final p t i (f.ended e i) }
@@ -292,6 +296,7 @@ module _ (x : Txn) (parts : List ℕ) where
       entries = all_on (EntryFine h el.epoch) (EntryFine g el.epoch) el.records (entry_on el.epoch) f.entries;
       single = f.single;
       kept = kept_on p el.kept f.kept;
+      low = f.low;
     }
 
     pub job_on : (e : ℕ) (j : Job) → JobFine h e j → JobFine g e j
@@ -316,9 +321,10 @@ module _ (x : Txn) (parts : List ℕ) where
 
     pub peer_on : (k e p : ℕ) (y : Peer) → Apart e h g → PeerFine h k e p y → PeerFine g k e p y
     peer_on k e p y a f = record {
+      low = f.low;
       waits = λ o i. let t = f.waits o i in (t.0, l.sent _ t.1);
       counts = λ j s b i t. f.counts j s b (a.asked p j s b i t) t;
     }
 
     pub master_on : (k : ℕ) (m : Master) → Apart m.epoch h g → MasterFine h k m → MasterFine g k m
-    master_on k m a f = record { life = lives_on k m.epoch f.life; jobs = jobs_on m.epoch m.begun m.jobs a.decided a.born f.jobs; peers = λ p. peer_on k m.epoch p (m.at p) a (f.peers p) }
+    master_on k m a f = record { life = lives_on k m.epoch f.life; low = f.low; jobs = jobs_on m.epoch m.begun m.jobs a.decided a.born f.jobs; peers = λ p. peer_on k m.epoch p (m.at p) a (f.peers p) }

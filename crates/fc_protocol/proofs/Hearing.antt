@@ -1,8 +1,9 @@
 -- An element hears a request.
-use Rattle.std.proofs.Common.{◌≡◌, ℕ, ◌+◌, ◌<◌, ◌≤◌, ◌==◌, ◌&&◌, Bool, true, false, cond, nat_lt, List, ◌∷◌, ◌++◌, Option, Some, None, ⊎_elim, refl, sym, ap, ◌∙◌, subst, arith, eqb-true, eq-eqb}
+use Rattle.std.proofs.Common.{◌≡◌, ℕ, ◌+◌, ◌^◌, ◌<◌, ◌≤◌, ◌==◌, ◌&&◌, Bool, true, false, cond, nat_lt, List, ◌∷◌, ◌++◌, Option, Some, None, ⊎_elim, refl, sym, ap, ◌∙◌, subst, arith, eqb-true, eq-eqb}
 use Rattle.fc_protocol.specs.Core.{Element, Core, raised}
 use Rattle.fc_protocol.specs.ElementMachine.{configured, by_body, Circumstance, ElementState, Heard, by_verdict, hears, acts, reply, unclaimed_code, only_says}
 use Rattle.fc_protocol.specs.Fence.{judge, claims}
+use Rattle.fc_protocol.specs.MasterMachine.{last_count}
 use Rattle.fc_protocol.specs.Messages.{Malformed, Beat, Unread, is_epoch, claim_of, Stamp, Body, Claim, Sot, Mot, Eot, Trcomp, Abt, Ask, Ask_record, Plain, is_query, Message, Setup, Request, Reply, Holds, Tells, Other_up, Other_down}
 use Rattle.fc_protocol.specs.Records.{seen, state_of, held}
 use Rattle.fc_protocol.specs.Trace.{Fact, Claimed_at, undone_facts}
@@ -21,10 +22,12 @@ use Rattle.fc_protocol.proofs.Phases.{Given, acted_of}
 abbrev pub on : Past → Core → Past
 on h d = record { core = d; sent = h.sent; used = h.used; begun = h.begun }
 
-pick_next : (e : ℕ) (o u l a n : Bool) → cond o (Claims e) (cond u Unclaimed (cond l (cond a Again (cond n Next Gap)) Stale)) ≡ Next → l ≡ true
+pick_next : (e : ℕ) (o u l a n : Bool) → cond o (Claims e) (cond u Unclaimed (cond l (cond a Again (cond n Next Gap)) Stale)) ≡ Next → (l ≡ true) × (n ≡ true)
 pick_next f true u l a n e = cc
 pick_next f false true l a n e = cc
-pick_next f false false true a n e = refl
+pick_next f false false true true n e = cc
+pick_next f false false true false true e = (refl, refl)
+pick_next f false false true false false e = cc
 pick_next f false false false a n e = cc
 
 pick_claims : (f g : ℕ) (o u l a n : Bool) → cond o (Claims f) (cond u Unclaimed (cond l (cond a Again (cond n Next Gap)) Stale)) ≡ Claims g → (o ≡ true) × (f ≡ g)
@@ -38,8 +41,10 @@ pick_claims f g false false false a n e = cc
 abbrev pub verdict_on : ElementState → ℕ → Stamp → Body → Verdict
 verdict_on el k m b = judge el.epoch el.master el.sequence k m (claim_of b)
 
-pub next_life : (el : ElementState) (k : ℕ) (m : Stamp) (b : Body) → verdict_on el k m b ≡ Next → m.life ≡ el.epoch
-next_life el k m b e = eqb-true _ _ (both_first (m.life == el.epoch) _ (pick_next m.life (claims el.epoch k m (claim_of b)) (el.epoch == 0) (m.life == el.epoch && k == el.master) (m.count == el.sequence) (m.count == el.sequence + 1) e))
+pub next_is : (el : ElementState) (k : ℕ) (m : Stamp) (b : Body) → verdict_on el k m b ≡ Next → (m.life ≡ el.epoch) × (m.count ≡ el.sequence + 1)
+next_is el k m b e =
+    let r = pick_next m.life (claims el.epoch k m (claim_of b)) (el.epoch == 0) (m.life == el.epoch && k == el.master) (m.count == el.sequence) (m.count == el.sequence + 1) e in
+    (eqb-true _ _ (both_first (m.life == el.epoch) _ r.0), eqb-true _ _ r.1)
 
 below : (m n : ℕ) → nat_lt m n ≡ true → m < n
 below m n h = grind arith
@@ -65,6 +70,10 @@ claims_claim el k m b g e =
     let r = pick_claims m.life g (claims el.epoch k m (claim_of b)) (el.epoch == 0) (m.life == el.epoch && k == el.master) (m.count == el.sequence) (m.count == el.sequence + 1) e in
     let t = opens_claim el k m b r.0 in
     (t.0, t.1, r.1)
+
+-- the halves of a correlator fit in their 32 bits
+abbrev pub Low : Stamp → Type 0
+Low s = (s.life < 2 ^ 32) × (s.count ≤ last_count)
 
 module _ (x : Txn) (parts : List ℕ) (h : Past) (fs : List Fact) where
   pub later_turned : (d : Core) (p : ℕ) → Turned x.epoch parts h.core d p → Later x parts h (on h d)
@@ -130,8 +139,8 @@ module _ (x : Txn) (parts : List ℕ) (h : Past) (fs : List Fact) where
   unclaimed true plain Ask z = absurd (omega arith)
   unclaimed true plain (Ask_record y) z = absurd (omega arith)
 
-  claimed : (p k from : ℕ) (el : ElementState) (s : Stamp) (b : Body) (ok : Circumstance) → Before x parts h.core fs → ElFine x parts h p el (h.core.at p) → Asked h p k s b → is_query b ≡ false → (b ≡ Claim s.life) × (el.epoch < s.life) → Went p k (by_verdict p el from ok s b (Claims s.life))
-  claimed p k from el s b ok v f a q c =
+  claimed : (p k from : ℕ) (el : ElementState) (s : Stamp) (b : Body) (ok : Circumstance) → Low s → Before x parts h.core fs → ElFine x parts h p el (h.core.at p) → Asked h p k s b → is_query b ≡ false → (b ≡ Claim s.life) × (el.epoch < s.life) → Went p k (by_verdict p el from ok s b (Claims s.life))
+  claimed p k from el s b ok w v f a q c =
       let above : (h.core.at p).epoch < s.life = subst (λ n. n < s.life) f.epoch c.1 in
       let low : el.epoch ≤ s.life = let l : el.epoch < s.life = c.1 in omega arith in
       let t = raises x.epoch parts h.core p s.life above in
@@ -154,6 +163,7 @@ module _ (x : Txn) (parts : List ℕ) (h : Past) (fs : List Fact) where
           entries = all_on _ _ _ (entry_on x parts h (on h t.0) l s.life) (undone_fine x parts h el.epoch s.life el.records low f.entries);
           single = single_undone x parts el.records f.single;
           kept = reply_kept (on h t.0) p s 0 ok.quiet answer;
+          low = (w.0, omega arith);
         };
         says_fine = reply_says (on h t.0) p k s 0 ok.quiet answer;
         marks = λ n. ⊎_elim (λ u.
@@ -167,8 +177,8 @@ module _ (x : Txn) (parts : List ℕ) (h : Past) (fs : List Fact) where
         good = claim_good x parts fs p s.life el.records (h.core.at p) f.single f.state (v.marks p) v.good;
       }
 
-  next : (p k from : ℕ) (el : ElementState) (s : Stamp) (b : Body) (ok : Circumstance) → Before x parts h.core fs → ElFine x parts h p el (h.core.at p) → Asked h p k s b → Means x parts h s.life p b → is_query b ≡ false → s.life ≡ el.epoch → Went p k (by_verdict p el from ok s b Next)
-  next p k from el s b ok v f a m q i =
+  next : (p k from : ℕ) (el : ElementState) (s : Stamp) (b : Body) (ok : Circumstance) → Low s → Before x parts h.core fs → ElFine x parts h p el (h.core.at p) → Asked h p k s b → Means x parts h s.life p b → is_query b ≡ false → s.life ≡ el.epoch → s.count ≡ el.sequence + 1 → Went p k (by_verdict p el from ok s b Next)
+  next p k from el s b ok w v f a m q i n =
       let given : Given x parts h fs p el.records = record { before = v; state = f.state; entries = subst (λ v. AllOf (EntryFine x parts h v) el.records) f.epoch f.entries; single = f.single } in
       let t = acted_of x parts h fs p el.epoch ok b el.records f.epoch given (subst (λ v. Means x parts h v p b) (i ∙ f.epoch) m) in
       let l = later_turned t.core p t.turned in
@@ -183,30 +193,31 @@ module _ (x : Txn) (parts : List ℕ) (h : Past) (fs : List Fact) where
           entries = subst (λ v. AllOf (EntryFine x parts (on h t.core) v) (acts p el.epoch ok b el.records).records) (sym f.epoch) (all_on _ _ _ (entry_on x parts h (on h t.core) l (h.core.at p).epoch) t.entries);
           single = t.single;
           kept = reply_kept (on h t.core) p s (acts p el.epoch ok b el.records).code ok.quiet answer;
+          low = (f.low.0, subst (λ v. v ≤ last_count) n w.1);
         };
         says_fine = reply_says (on h t.core) p k s (acts p el.epoch ok b el.records).code ok.quiet answer;
         marks = t.marks;
         good = t.good;
       }
 
-  by_judge : (p k from : ℕ) (el : ElementState) (s : Stamp) (b : Body) (ok : Circumstance) (v : Verdict) → Before x parts h.core fs → ElFine x parts h p el (h.core.at p) → Asked h p k s b → Means x parts h s.life p b → is_query b ≡ false → verdict_on el from s b ≡ v → Went p k (by_verdict p el from ok s b v)
-  by_judge p k from el s b ok (Claims g) v f a m q e = let c = claims_claim el from s b g e in subst (λ n. Went p k (by_verdict p el from ok s b (Claims n))) c.2 (claimed p k from el s b ok v f a q (c.0, c.1))
-  by_judge p k from el s b ok Unclaimed v f a m q e =
+  by_judge : (p k from : ℕ) (el : ElementState) (s : Stamp) (b : Body) (ok : Circumstance) (v : Verdict) → Low s → Before x parts h.core fs → ElFine x parts h p el (h.core.at p) → Asked h p k s b → Means x parts h s.life p b → is_query b ≡ false → verdict_on el from s b ≡ v → Went p k (by_verdict p el from ok s b v)
+  by_judge p k from el s b ok (Claims g) w v f a m q e = let c = claims_claim el from s b g e in subst (λ n. Went p k (by_verdict p el from ok s b (Claims n))) c.2 (claimed p k from el s b ok w v f a q (c.0, c.1))
+  by_judge p k from el s b ok Unclaimed w v f a m q e =
       let code = unclaimed_code (from == el.ce) ok.plain b in
       stays p k el (reply ok.quiet s code) v f (reply_says h p k s code ok.quiet (refused p k s b code a q (unclaimed (from == el.ce) ok.plain b)))
-  by_judge p k from el s b ok Stale v f a m q e = stays p k el (reply ok.quiet s 12) v f (reply_says h p k s 12 ok.quiet (refused p k s b 12 a q (λ z. absurd (omega arith))))
-  by_judge p k from el s b ok Again v f a m q e = stays p k el el.kept v f (kept_says h p k el.kept f.kept)
-  by_judge p k from el s b ok Next v f a m q e = next p k from el s b ok v f a m q (next_life el from s b e)
-  by_judge p k from el s b ok Gap v f a m q e = stays p k el (reply ok.quiet s 16) v f (reply_says h p k s 16 ok.quiet (refused p k s b 16 a q (λ z. absurd (omega arith))))
+  by_judge p k from el s b ok Stale w v f a m q e = stays p k el (reply ok.quiet s 12) v f (reply_says h p k s 12 ok.quiet (refused p k s b 12 a q (λ z. absurd (omega arith))))
+  by_judge p k from el s b ok Again w v f a m q e = stays p k el el.kept v f (kept_says h p k el.kept f.kept)
+  by_judge p k from el s b ok Next w v f a m q e = let i = next_is el from s b e in next p k from el s b ok w v f a m q i.0 i.1
+  by_judge p k from el s b ok Gap w v f a m q e = stays p k el (reply ok.quiet s 16) v f (reply_says h p k s 16 ok.quiet (refused p k s b 16 a q (λ z. absurd (omega arith))))
 
-  by_misfit : (p k from : ℕ) (el : ElementState) (s : Stamp) (b : Body) (ok : Circumstance) (fits : Bool) → (ok.misfit == 0) ≡ fits → Before x parts h.core fs → ElFine x parts h p el (h.core.at p) → Asked h p k s b → Means x parts h s.life p b → is_query b ≡ false
+  by_misfit : (p k from : ℕ) (el : ElementState) (s : Stamp) (b : Body) (ok : Circumstance) (fits : Bool) → (ok.misfit == 0) ≡ fits → Low s → Before x parts h.core fs → ElFine x parts h p el (h.core.at p) → Asked h p k s b → Means x parts h s.life p b → is_query b ≡ false
       → Went p k (cond fits (by_verdict p el from ok s b (verdict_on el from s b)) (only_says el (reply ok.quiet s ok.misfit)))
-  by_misfit p k from el s b ok true i v f a m q = by_judge p k from el s b ok (verdict_on el from s b) v f a m q refl
-  by_misfit p k from el s b ok false i v f a m q =
+  by_misfit p k from el s b ok true i w v f a m q = by_judge p k from el s b ok (verdict_on el from s b) w v f a m q refl
+  by_misfit p k from el s b ok false i w v f a m q =
       stays p k el (reply ok.quiet s ok.misfit) v f (reply_says h p k s ok.misfit ok.quiet (refused p k s b ok.misfit a q (λ z. let t : true ≡ false = sym (eq-eqb ok.misfit 0 z) ∙ i in cc)))
 
-  config : (p k from : ℕ) (el : ElementState) (ok : Circumstance) (s : Stamp) (b : Body) → Before x parts h.core fs → ElFine x parts h p el (h.core.at p) → Asked h p k s b → Means x parts h s.life p b → is_query b ≡ false → Went p k (configured p el from ok s b)
-  config p k from el ok s b v f a m q = by_misfit p k from el s b ok (ok.misfit == 0) refl v f a m q
+  config : (p k from : ℕ) (el : ElementState) (ok : Circumstance) (s : Stamp) (b : Body) → Low s → Before x parts h.core fs → ElFine x parts h p el (h.core.at p) → Asked h p k s b → Means x parts h s.life p b → is_query b ≡ false → Went p k (configured p el from ok s b)
+  config p k from el ok s b w v f a m q = by_misfit p k from el s b ok (ok.misfit == 0) refl w v f a m q
 
   -- the record of y is told
   told : (p k : ℕ) (el : ElementState) (s : Stamp) (y : Txn) → Before x parts h.core fs → ElFine x parts h p el (h.core.at p) → Asked h p k s (Ask_record y) → Went p k (only_says el (Some (Tells s el.epoch (seen (state_of y el.records)))))
@@ -235,21 +246,21 @@ module _ (x : Txn) (parts : List ℕ) (h : Past) (fs : List Fact) where
   asked_fit p k el s answer true v f w = w
   asked_fit p k el s answer false v f w = stays p k el (Some (Unread s None)) v f tt
 
-  by_kind : (p k from : ℕ) (el : ElementState) (ok : Circumstance) (s : Stamp) (b : Body) → Before x parts h.core fs → ElFine x parts h p el (h.core.at p) → Asked h p k s b → Means x parts h s.life p b → Went p k (by_body p el from ok s b)
-  by_kind p k from el ok s Ask v f a m = asked_fit p k el s (Holds s el.epoch (held el.records)) (ok.misfit == 0) v f (stays p k el (Some (Holds s el.epoch (held el.records))) v f (held_fine x parts h el.epoch el.records f.entries))
-  by_kind p k from el ok s (Ask_record y) v f a m = asked_fit p k el s (Tells s el.epoch (seen (state_of y el.records))) (ok.misfit == 0) v f (told p k el s y v f a)
-  by_kind p k from el ok s (Claim w) v f a m = config p k from el ok s (Claim w) v f a m refl
-  by_kind p k from el ok s (Sot y ps) v f a m = config p k from el ok s (Sot y ps) v f a m refl
-  by_kind p k from el ok s (Mot y) v f a m = config p k from el ok s (Mot y) v f a m refl
-  by_kind p k from el ok s (Eot y) v f a m = config p k from el ok s (Eot y) v f a m refl
-  by_kind p k from el ok s (Trcomp y) v f a m = config p k from el ok s (Trcomp y) v f a m refl
-  by_kind p k from el ok s (Abt y) v f a m = config p k from el ok s (Abt y) v f a m refl
-  by_kind p k from el ok s Malformed v f a m = config p k from el ok s Malformed v f a m refl
-  by_kind p k from el ok s Plain v f a m = config p k from el ok s Plain v f a m refl
+  by_kind : (p k from : ℕ) (el : ElementState) (ok : Circumstance) (s : Stamp) (b : Body) → Low s → Before x parts h.core fs → ElFine x parts h p el (h.core.at p) → Asked h p k s b → Means x parts h s.life p b → Went p k (by_body p el from ok s b)
+  by_kind p k from el ok s Ask w v f a m = asked_fit p k el s (Holds s el.epoch (held el.records)) (ok.misfit == 0) v f (stays p k el (Some (Holds s el.epoch (held el.records))) v f (held_fine x parts h el.epoch el.records f.entries))
+  by_kind p k from el ok s (Ask_record y) w v f a m = asked_fit p k el s (Tells s el.epoch (seen (state_of y el.records))) (ok.misfit == 0) v f (told p k el s y v f a)
+  by_kind p k from el ok s (Claim e) w v f a m = config p k from el ok s (Claim e) w v f a m refl
+  by_kind p k from el ok s (Sot y ps) w v f a m = config p k from el ok s (Sot y ps) w v f a m refl
+  by_kind p k from el ok s (Mot y) w v f a m = config p k from el ok s (Mot y) w v f a m refl
+  by_kind p k from el ok s (Eot y) w v f a m = config p k from el ok s (Eot y) w v f a m refl
+  by_kind p k from el ok s (Trcomp y) w v f a m = config p k from el ok s (Trcomp y) w v f a m refl
+  by_kind p k from el ok s (Abt y) w v f a m = config p k from el ok s (Abt y) w v f a m refl
+  by_kind p k from el ok s Malformed w v f a m = config p k from el ok s Malformed w v f a m refl
+  by_kind p k from el ok s Plain w v f a m = config p k from el ok s Plain w v f a m refl
 
-  went_if : (p k from : ℕ) (el : ElementState) (ok : Circumstance) (s : Stamp) (b : Body) (unheard : Bool) → Before x parts h.core fs → ElFine x parts h p el (h.core.at p) → Asked h p k s b → Means x parts h s.life p b → Went p k (cond unheard (only_says el None) (by_body p el from ok s b))
-  went_if p k from el ok s b true v f a m = stays p k el None v f tt
-  went_if p k from el ok s b false v f a m = by_kind p k from el ok s b v f a m
+  went_if : (p k from : ℕ) (el : ElementState) (ok : Circumstance) (s : Stamp) (b : Body) (unheard : Bool) → Low s → Before x parts h.core fs → ElFine x parts h p el (h.core.at p) → Asked h p k s b → Means x parts h s.life p b → Went p k (cond unheard (only_says el None) (by_body p el from ok s b))
+  went_if p k from el ok s b true w v f a m = stays p k el None v f tt
+  went_if p k from el ok s b false w v f a m = by_kind p k from el ok s b w v f a m
 
-  pub went : (p k from : ℕ) (el : ElementState) (ok : Circumstance) (s : Stamp) (b : Body) → Before x parts h.core fs → ElFine x parts h p el (h.core.at p) → Asked h p k s b → Means x parts h s.life p b → Went p k (hears p el from ok s b)
-  went p k from el ok s b v f a m = went_if p k from el ok s b ok.unheard v f a m
+  pub went : (p k from : ℕ) (el : ElementState) (ok : Circumstance) (s : Stamp) (b : Body) → Low s → Before x parts h.core fs → ElFine x parts h p el (h.core.at p) → Asked h p k s b → Means x parts h s.life p b → Went p k (hears p el from ok s b)
+  went p k from el ok s b w v f a m = went_if p k from el ok s b ok.unheard w v f a m

@@ -2,7 +2,7 @@
 use Rattle.std.proofs.Common.{◌≡◌, ℕ, ◌<◌, ◌≤◌, ◌==◌, ◌||◌, not, Bool, true, false, cond, nat_lt, List, Option, Some, None, refl, sym, ap, ◌∙◌, subst, arith, eqb-true}
 use Rattle.fc_protocol.specs.Collections.{among, put}
 use Rattle.fc_protocol.specs.Jobs.{discover, on_job, answered_by, answer}
-use Rattle.fc_protocol.specs.MasterMachine.{unread_told, Waiting, Peer, Master, at_put, after_code, after_ask, unmatched, dropped, depose, matches, coded, is_lower, by_epoch, held_by, held_told, record_by, record_told, heard}
+use Rattle.fc_protocol.specs.MasterMachine.{last_count, unread_told, Waiting, Peer, Master, at_put, after_code, after_ask, unmatched, dropped, depose, matches, coded, is_lower, by_epoch, held_by, held_told, record_by, record_told, heard}
 use Rattle.fc_protocol.specs.Messages.{Malformed, Beat, Unread, Stamp, same_stamp, Body, Claim, Sot, Mot, Eot, Trcomp, Abt, Ask, Ask_record, Plain, is_query, Message, Setup, Request, Reply, Holds, Tells, Other_up, Other_down, Sent, sent}
 use Rattle.fc_protocol.specs.declared.answers.TxnEntry.{TxnEntry}
 use Rattle.fc_protocol.specs.declared.states.Seen.{Seen}
@@ -36,6 +36,7 @@ module _ (x : Txn) (parts : List ℕ) (h : Past) (k : ℕ) where
   -- a peer that waits for nothing, with the same counts
   idle : (e p : ℕ) (y z : Peer) → z.waits ≡ None → z.last ≡ y.last → z.queries ≡ y.queries → PeerFine x parts h k e p y → PeerFine x parts h k e p z
   idle e p y z n l q f = record {
+    low = (subst (λ v. v ≤ last_count) (sym l) f.low.0, subst (λ v. v ≤ last_count) (sym q) f.low.1);
     waits = λ o i. none_some o (sym n ∙ i);
     counts = λ j s b a i. subst (λ v. s.count ≤ cond (is_query b) v z.last) (sym q) (subst (λ v. s.count ≤ cond (is_query b) y.queries v) (sym l) (f.counts j s b a i));
   }
@@ -43,6 +44,7 @@ module _ (x : Txn) (parts : List ℕ) (h : Past) (k : ℕ) where
   -- a peer that waits as before
   marked : (e p : ℕ) (y z : Peer) → z.waits ≡ y.waits → z.last ≡ y.last → z.queries ≡ y.queries → PeerFine x parts h k e p y → PeerFine x parts h k e p z
   marked e p y z n l q f = record {
+    low = (subst (λ v. v ≤ last_count) (sym l) f.low.0, subst (λ v. v ≤ last_count) (sym q) f.low.1);
     waits = λ o i. f.waits o (sym n ∙ i);
     counts = λ j s b a i. subst (λ v. s.count ≤ cond (is_query b) v z.last) (sym q) (subst (λ v. s.count ≤ cond (is_query b) y.queries v) (sym l) (f.counts j s b a i));
   }
@@ -51,6 +53,7 @@ module _ (x : Txn) (parts : List ℕ) (h : Past) (k : ℕ) where
   with_peer : (m n : Master) (p : ℕ) (y : Peer) → n.epoch ≡ m.epoch → n.begun ≡ m.begun → ((q : ℕ) → n.at q ≡ put m.at p y q) → MasterFine x parts h k m → PeerFine x parts h k m.epoch p y → JobsFine x parts h m.epoch m.begun n.jobs → MasterFine x parts h k n
   with_peer m n p y e b a f g i = record {
     life = subst (Lives h k) (sym e) f.life;
+    low = subst (λ v. v ≤ last_count) (sym b) f.low;
     jobs = subst (λ v. JobsFine x parts h v n.begun n.jobs) (sym e) (subst (λ v. JobsFine x parts h m.epoch v n.jobs) (sym b) i);
     peers = λ q. subst (λ v. PeerFine x parts h k v q (n.at q)) (sym e) (subst (PeerFine x parts h k m.epoch q) (sym (a q)) (put_all (PeerFine x parts h k m.epoch) m.at p y g f.peers q));
   }
@@ -59,7 +62,7 @@ module _ (x : Txn) (parts : List ℕ) (h : Past) (k : ℕ) where
   unmatch m p f = with_peer m (at_put m p (unmatched (m.at p))) p (unmatched (m.at p)) refl refl (λ _. refl) f (idle m.epoch p (m.at p) (unmatched (m.at p)) refl refl refl (f.peers p)) f.jobs
 
   deposes : (m : Master) (e : ℕ) → MasterFine x parts h k m → MasterFine x parts h k (depose m e)
-  deposes m e f = record { life = f.life; jobs = f.jobs; peers = λ q. idle m.epoch q (m.at q) (dropped (m.at q)) refl refl refl (f.peers q) }
+  deposes m e f = record { life = f.life; low = f.low; jobs = f.jobs; peers = λ q. idle m.epoch q (m.at q) (dropped (m.at q)) refl refl refl (f.peers q) }
 
   -- what the response is to, and what that means
   record Matched (m : Master) (p : ℕ) (s : Stamp) (o : Waiting) : Type 0 where

@@ -11,6 +11,7 @@ pub mod Telling
 pub mod Jobs
 pub mod Hears
 pub mod Deciding
+pub mod Calls
 pub mod Sending
 pub mod Binding
 pub mod Numbers

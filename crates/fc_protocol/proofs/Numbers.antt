@@ -1,6 +1,6 @@
 -- One life makes a transaction, once, with one list of participants.
-use Rattle.std.proofs.Common.{◌≡◌, ℕ, ◌+◌, ◌*◌, ◌<◌, ◌≤◌, ◌&&◌, ◌||◌, ◌==◌, eqb-true, Bool, true, false, cond, nat_lt, List, [], ◌∷◌, Option, Some, None, is_some, inl, inr, ⊎_elim, refl, sym, ap, ◌∙◌, subst, arith}
-use Rattle.fc_protocol.specs.Agreement.{Agree, SettleOnce, Ready, OnePlan, Settled, SettledWhole, BegunOnce, SaysOnce, FollowsCore}
+use Rattle.std.proofs.Common.{◌≡◌, ℕ, ◌+◌, ◌*◌, ◌^◌, ◌<◌, ◌≤◌, ◌&&◌, ◌||◌, ◌==◌, eqb-true, Bool, true, false, cond, nat_lt, List, [], ◌∷◌, Option, Some, None, is_some, inl, inr, ⊎_elim, refl, sym, ap, ◌∙◌, subst, arith}
+use Rattle.fc_protocol.specs.Agreement.{Agree, SettleOnce, Ready, OnePlan, Settled, SettledWhole, BegunOnce, SaysOnce, FollowsCore, Bounded}
 use Rattle.fc_protocol.specs.Collections.{put, among}
 use Rattle.fc_protocol.specs.Core.{start}
 use Rattle.fc_protocol.specs.ElementMachine.{Circumstance}
@@ -15,7 +15,7 @@ use Rattle.fc_protocol.proofs.Puts.{put_here, both_first, both_second}
 use Rattle.fc_protocol.proofs.Basics.{In, both, cond_true, same_true, same_of, put_rest}
 use Rattle.fc_protocol.proofs.Facts.{Past, Lives, Named}
 use Rattle.fc_protocol.proofs.Hears.{cond_all}
-use Rattle.fc_protocol.proofs.Binding.{same_life, fresh_life, may_start_is, Goes, run_tied, first_tied, agrees, settles_once, readies, opens_alike, settled_there, says_apart, follows}
+use Rattle.fc_protocol.proofs.Binding.{same_life, fresh_life, may_start_is, Goes, run_tied, first_tied, agrees, settles_once, readies, opens_alike, settled_there, says_apart, follows, bounded}
 
 abbrev Alike : Master → Master → Type 0
 Alike m n = (n.epoch ≡ m.epoch) × (n.begun ≡ m.begun)
@@ -134,17 +134,17 @@ delivers_ids w ok None i = i
 delivers_ids w ok (Some s) i = delivered_ids w ok s.element s.controller s.message i
 
 used_on : (w : World) (k r j e : ℕ) → Lives (at_start w) j e → Lives (at_start (starts w k r)) j e
-used_on w k r j e v = (v.0, put_rest (λ i u. In v.0 (w.used i) → In v.0 u) w.used k (r ∷ w.used k) (λ i. inr i) (λ _ _ i. i) j v.1, v.2, v.3)
+used_on w k r j e v = (v.0, put_rest (λ i u. In v.0 (w.used i) → In v.0 u) w.used k (r ∷ w.used k) (λ i. inr i) (λ _ _ i. i) j v.1, v.2, v.3, v.4)
 
 numbered_on : (w : World) (k r j : ℕ) (o : Option Master) → LifeNumbered (at_start w) j o → LifeNumbered (at_start (starts w k r)) j o
 numbered_on w k r j None f = tt
 numbered_on w k r j (Some m) f = record { life = used_on w k r j m.epoch f.life; numbers = f.numbers }
 
-start_ids : (w : World) (k r : ℕ) → k < 256 → among r (w.used k) ≡ false → Ids w → Ids (starts w k r)
-start_ids w k r small new i = record {
+start_ids : (w : World) (k r : ℕ) → k < 256 → r < 2 ^ 24 → among r (w.used k) ≡ false → Ids w → Ids (starts w k r)
+start_ids w k r small few new i = record {
   lives = put_rest (LifeNumbered (at_start (starts w k r))) w.masters k (Some (new_master (256 * r + k) w.network.elements))
       (record {
-        life = (r, subst (In r) (sym (put_here w.used k (r ∷ w.used k))) (inl refl), refl, small);
+        life = (r, subst (In r) (sym (put_here w.used k (r ∷ w.used k))) (inl refl), refl, small, few);
         numbers = λ b n e. let v = i.owners b n in absurd (fresh_life w start k r v.0 small new (subst (Lives (at_start w) v.0) e v.1));
       })
       (λ j _. numbered_on w k r j (w.masters j) (i.lives j));
@@ -211,7 +211,7 @@ happens_ids w (Open p k) i = cond_all Ids (among p w.network.elements && is_some
 happens_ids w (Moment p ks) i = cond_all Ids (among p w.network.elements) (says w (murmurs p ks)) w (λ _. says_ids w _ i) (λ _. i)
 happens_ids w (Change k p) i = change_ids w k p (w.masters k) i refl
 happens_ids w (Deliver n ok) i = delivers_ids w ok (numbered w.sent n) i
-happens_ids w (Start k r) i = cond_all Ids (may_start w k r) (starts w k r) w (λ e. let v = may_start_is w k r e in start_ids w k r v.0 v.1 i) (λ _. i)
+happens_ids w (Start k r) i = cond_all Ids (may_start w k r) (starts w k r) w (λ e. let v = may_start_is w k r e in start_ids w k r v.0 v.1 v.2 i) (λ _. i)
 happens_ids w (Stop k) i = record { lives = put_rest (LifeNumbered (at_start w)) w.masters k None tt (λ j _. i.lives j); owners = i.owners; once = i.once }
 happens_ids w (Begin k ps changes) i = begin_ids w k ps changes (w.masters k) i refl
 happens_ids w (Give_up k y) i = give_up_ids w k y (w.masters k) i refl
@@ -286,3 +286,6 @@ module _ (net : Network) (ss : List Step) where
 
   pub follows_core_law : FollowsCore world
   follows_core_law x = follows x (parts_of x world.begun) world (goes x)
+
+  pub bounded_law : Bounded world
+  bounded_law = let y : Txn = record { epoch = 0; number = 0 } in bounded y (parts_of y world.begun) world (goes y)

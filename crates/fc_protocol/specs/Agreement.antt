@@ -1,11 +1,11 @@
 -- What holds of a world however messages are lost, repeated and reordered and controllers stop and return. Lists of facts have the newest first. This profile's own.
-use Rattle.std.specs.Prelude.{◌≡◌, ℕ, true, List, ◌∷◌, ◌++◌, Option, Some, None}
+use Rattle.std.specs.Prelude.{◌≡◌, ℕ, ◌<◌, ◌^◌, true, List, ◌∷◌, ◌++◌, Option, Some, None}
 use Rattle.fc_base.specs.Ids.{Txn}
 use Rattle.fc_protocol.specs.Collections.{In, among}
 use Rattle.fc_protocol.specs.Core.{Move, start, moves}
 use Rattle.fc_protocol.specs.Jobs.{Job, find, is_settled}
 use Rattle.fc_protocol.specs.MasterMachine.{Master}
-use Rattle.fc_protocol.specs.Messages.{Stamp, Request, Trcomp, Abt, sent}
+use Rattle.fc_protocol.specs.Messages.{Stamp, Body, Request, Trcomp, Abt, sent}
 use Rattle.fc_protocol.specs.Records.{seen, state_of}
 use Rattle.fc_protocol.specs.Trace.{Fact, Opened_at, Prepared_at, Settled_at}
 use Rattle.fc_protocol.specs.WorldSteps.{World, Begun}
@@ -55,3 +55,10 @@ FollowsCore w =
     (x : Txn) → (parts : List ℕ) × (ms : List Move)
     × ((p : ℕ) → (((moves x.epoch parts ms start).at p).epoch ≡ (w.at p).epoch) × (((moves x.epoch parts ms start).at p).state ≡ seen (state_of x (w.at p).records)))
     × ((k : ℕ) (m : Master) → w.masters k ≡ Some m → (moves x.epoch parts ms start).decided m.epoch ≡ decision_of (find x m.jobs))
+
+-- every number in a request, at an element and of a running master fits in its 32 bits
+abbrev pub Bounded : World → Type 0
+Bounded w =
+    ((p k : ℕ) (m : Stamp) (b : Body) → In (sent p k (Request m b)) w.sent → (m.life < 2 ^ 32) × (m.count < 2 ^ 32))
+    × ((p : ℕ) → ((w.at p).epoch < 2 ^ 32) × ((w.at p).sequence < 2 ^ 32))
+    × ((k : ℕ) (m : Master) → w.masters k ≡ Some m → (m.epoch < 2 ^ 32) × (m.begun < 2 ^ 32) × ((p : ℕ) → ((m.at p).last < 2 ^ 32) × ((m.at p).queries < 2 ^ 32)))

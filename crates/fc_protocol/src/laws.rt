@@ -1,7 +1,7 @@
 //! The laws of the protocol. Each function has no body: what it ensures holds of the definitions in specs/.
 
 ghost use Rattle.std.specs.Prelude.{◌≡◌, ℕ, ◌<◌, ◌≤◌, true, List, [], Some};
-ghost use Rattle.fc_protocol.specs.Agreement.{Agree, SettleOnce, Ready, OnePlan, Settled, SettledWhole, BegunOnce, SaysOnce, FollowsCore};
+ghost use Rattle.fc_protocol.specs.Agreement.{Agree, SettleOnce, Ready, OnePlan, Settled, SettledWhole, BegunOnce, SaysOnce, FollowsCore, Bounded};
 ghost use Rattle.fc_protocol.specs.Collections.{among};
 ghost use Rattle.fc_protocol.specs.Core.{Core, Move, moves, start};
 ghost use Rattle.fc_protocol.specs.ElementMachine.{ElementState, Circumstance, hears};
@@ -34,6 +34,7 @@ pub fn agreement()
     ensures begun_once { (n : Network) (steps : List Step) → BegunOnce (run steps (first_world n)) }
     ensures says_once { (n : Network) (steps : List Step) → SaysOnce (run steps (first_world n)) }
     ensures follows_core { (n : Network) (steps : List Step) → FollowsCore (run steps (first_world n)) }
+    ensures bounded { (n : Network) (steps : List Step) → Bounded (run steps (first_world n)) }
 {}
 
 /// A request of a life below an element's epoch changes nothing there, in any part, and gives no fact, whoever sends it and whatever it says.
