@@ -17,4 +17,5 @@ pub mod Binding
 pub mod Numbers
 pub mod Stale
 pub mod Lasting
+pub mod Still
 pub mod Halves

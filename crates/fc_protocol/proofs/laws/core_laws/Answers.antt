@@ -1,5 +1,6 @@
-use Rattle.fc_protocol.proofs.Keeps.{agree, ready, reached, all_had_prepared}
+use Rattle.fc_protocol.proofs.Keeps.{agree, ready, reached, all_had_prepared, later_complete}
 use Rattle.fc_protocol.proofs.Lasting.{completed_lasts, aborted_lasts, decision_lasts}
+use Rattle.fc_protocol.proofs.Still.{answer_stays}
 use Rattle.fc_protocol.proofs.laws.core_laws.Goals as goal
 
 pub returns-clause-agree : goal.returns-clause-agree
@@ -22,3 +23,9 @@ returns-clause-aborted_stays c = aborted_lasts
 
 pub returns-clause-decides_once : goal.returns-clause-decides_once
 returns-clause-decides_once c = decision_lasts
+
+pub returns-clause-later_complete : goal.returns-clause-later_complete
+returns-clause-later_complete c = later_complete
+
+pub returns-clause-answer_stays : goal.returns-clause-answer_stays
+returns-clause-answer_stays c = answer_stays
