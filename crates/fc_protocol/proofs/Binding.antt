@@ -1,25 +1,21 @@
 -- Each step of the world is moves of the core.
 use Rattle.std.proofs.Common.{◌≡◌, ℕ, ◌+◌, ◌*◌, ◌%◌, ◌^◌, zero, suc, ◌<◌, ◌≤◌, ◌==◌, ◌&&◌, ◌||◌, not, Bool, true, false, cond, nat_lt, List, [], ◌∷◌, ◌++◌, append_assoc, map, Option, Some, None, is_none, is_some, ◌⊎◌, inl, inr, ⊎_elim, refl, sym, ap, ◌∙◌, subst, arith, eqb-true, eq-eqb}
-use Rattle.fc_protocol.specs.Agreement.{decision_of, Bounded}
 use Rattle.fc_protocol.specs.Collections.{among, put, or_next}
-use Rattle.fc_protocol.specs.Core.{Core, Move, moves, start}
+use Rattle.fc_protocol.specs.Core.{Core, start}
 use Rattle.fc_protocol.specs.ElementMachine.{Circumstance, hears}
 use Rattle.fc_protocol.specs.Jobs.{Job, find, decided_job, new_job, given_up}
 use Rattle.fc_protocol.specs.MasterMachine.{last_count, count_of, Refusal, begin_refusal, plain_refusal, give_up_refusal, Waiting, Peer, Master, new_master, decide_all, due, sends_one, sends_all, heard, again, at_once, finish, begins, gives_up}
-use Rattle.fc_protocol.specs.Messages.{Trcomp, Abt, Beat, Unread, same, Stamp, Body, Message, Setup, Request, Reply, Holds, Tells, Other_up, Other_down, Plain, Sent, sent}
-use Rattle.fc_protocol.specs.Records.{seen, state_of}
-use Rattle.fc_protocol.specs.Trace.{Fact, Opened_at, Prepared_at, Settled_at}
-use Rattle.fc_protocol.specs.WorldSteps.{Open, Give_up, Network, controller_of, World, Begun, Step, Deliver, Moment, Start, Stop, Begin, Change, Resend, murmurs, sender, numbered, is_round, may_start, begin_by, give_up_by, change_by, change_at, first_world, says, with_master, with_begun, speaks, to_master, to_element, delivered, delivers, starts, begin_at, give_up_at, resend_at, happens, run}
+use Rattle.fc_protocol.specs.Messages.{Beat, Unread, same, Stamp, Body, Message, Setup, Request, Reply, Holds, Tells, Other_up, Other_down, Plain, Sent, sent}
+use Rattle.fc_protocol.specs.WorldSteps.{Open, Give_up, Network, controller_of, World, Begun, Step, Deliver, Moment, Start, Stop, Begin, Change, Resend, murmurs, sender, numbered, is_round, may_start, begin_by, give_up_by, change_by, change_at, first_world, says, with_master, with_begun, speaks, to_master, to_element, delivered, delivers, starts, begin_at, give_up_at, resend_at, happens}
 use Rattle.fc_protocol.specs.declared.states.Decision.{Decision}
 use Rattle.fc_protocol.specs.declared.states.Decision.TheVariants.{Complete, Abort}
 use Rattle.fc_protocol.specs.declared.states.Seen.TheVariants.{Absent}
 use Rattle.fc_base.specs.Ids.{Txn}
 use Rattle.fc_protocol.proofs.Puts.{put_here, both_first, both_second}
 use Rattle.fc_protocol.proofs.Basics.{In, in_left, in_either, in_get, cond_false, all_in, all_on, both, same_true, same_of, put_other, put_rest, none_some, some_same}
-use Rattle.fc_protocol.proofs.Facts.{Past, past, Lives, Unique, Born, Named, SentFine, RequestFine, MessageFine, JobFine, PeerFine, MasterFine, LifeFine, Tied, Later, el_on, job_on, lives_on, Marks, GoodFact, GoodFacts, done}
+use Rattle.fc_protocol.proofs.Facts.{Past, past, Lives, Unique, Born, Named, SentFine, RequestFine, MessageFine, JobFine, PeerFine, MasterFine, LifeFine, Tied, Later, el_on, job_on, lives_on, Marks, done}
 use Rattle.fc_protocol.proofs.Hearing.{Low, went}
 use Rattle.fc_protocol.proofs.Telling.{life_on, sent_on, later_more, element_tied}
-use Rattle.fc_protocol.proofs.Keeps.{agree}
 use Rattle.fc_protocol.proofs.Jobs.{found_in, jobs_add}
 use Rattle.fc_protocol.proofs.Hears.{cond_all, hears_fine}
 use Rattle.fc_protocol.proofs.Deciding.{Decided, decide_fine, give_up_fine, later_ruled}
@@ -83,7 +79,7 @@ in_numbered s ss zero e = cc
 in_numbered s ss (suc i) e = in_get s ss i e
 
 module _ (x : Txn) (parts : List ℕ) where
-  master_is : (h : Past) (k : ℕ) (o : Option Master) (m : Master) → o ≡ Some m → LifeFine x parts h k o → MasterFine x parts h k m
+  pub master_is : (h : Past) (k : ℕ) (o : Option Master) (m : Master) → o ≡ Some m → LifeFine x parts h k o → MasterFine x parts h k m
   master_is h k o m e f = subst (LifeFine x parts h k) e f
 
   master_of : (w : World) (c : Core) (k : ℕ) (m : Master) (ss : List Sent) → Tied x parts (with_master w k m ss) c → MasterFine x parts (past (with_master w k m ss) c) k m
@@ -273,7 +269,7 @@ module _ (x : Txn) (parts : List ℕ) where
       let f = hears_fine x parts h k m p i (master_of w c k m (w.sent ++ first) b) b.sent b.unique (b.sent (sent p k i) (in_left _ w.sent first n)) in
       speak_tied w c k (heard m p i) first (swap w c k m (heard m p i) (w.sent ++ first) b f)
 
-  request_low : (h : Past) (k p : ℕ) (s : Stamp) (b : Body) → RequestFine x parts h k p s b → Low s
+  pub request_low : (h : Past) (k p : ℕ) (s : Stamp) (b : Body) → RequestFine x parts h k p s b → Low s
   request_low h k p s b f = let l = f.life in let e : s.life ≡ 256 * l.0 + k = l.2 in let i : k < 256 = l.3 in let j : l.0 < 2 ^ 24 = l.4 in (omega arith, f.low)
 
   delivered_tied : (w : World) (c : Core) (ok : Circumstance) (p k : ℕ) (i : Message) → Tied x parts w c → In (sent p k i) w.sent → Goes (delivered w ok p k i)
@@ -488,160 +484,3 @@ module _ (x : Txn) (parts : List ℕ) where
       start_over : {P : Type 0} (d : Decision) → Absent ≡ done d → P
       start_over Complete e = cc
       start_over Abort e = cc
-
-  begun_master : (w : World) (p k : ℕ) (i : Message) (o : Option Master) → (to_master w p k i o).begun ≡ w.begun
-  begun_master w p k i None = refl
-  begun_master w p k i (Some m) = refl
-
-  begun_delivered : (w : World) (ok : Circumstance) (p k : ℕ) (i : Message) → (delivered w ok p k i).begun ≡ w.begun
-  begun_delivered w ok p k Setup = begun_master w p k Setup (w.masters k)
-  begun_delivered w ok p k (Request s b) = refl
-  begun_delivered w ok p k (Reply s b) = begun_master w p k (Reply s b) (w.masters k)
-  begun_delivered w ok p k (Holds s e b) = begun_master w p k (Holds s e b) (w.masters k)
-  begun_delivered w ok p k (Tells s e b) = begun_master w p k (Tells s e b) (w.masters k)
-  begun_delivered w ok p k Beat = begun_master w p k Beat (w.masters k)
-  begun_delivered w ok p k (Unread s e) = begun_master w p k (Unread s e) (w.masters k)
-  begun_delivered w ok p k Other_up = begun_master w p k Other_up (w.masters k)
-  begun_delivered w ok p k Other_down = refl
-
-  begun_delivers : (w : World) (ok : Circumstance) (o : Option Sent) → (delivers w ok o).begun ≡ w.begun
-  begun_delivers w ok None = refl
-  begun_delivers w ok (Some s) = begun_delivered w ok s.element s.controller s.message
-
-  begun_begin_by : (w : World) (k : ℕ) (ps : List ℕ) (changes : ℕ → ℕ) (m : Master) (r : Option Refusal) (b : Begun) → In b w.begun → In b (begin_by w k ps changes m r).begun
-  begun_begin_by w k ps changes m (Some r) b i = i
-  begun_begin_by w k ps changes m None b i = inr i
-
-  begun_begin : (w : World) (k : ℕ) (ps : List ℕ) (changes : ℕ → ℕ) (o : Option Master) (b : Begun) → In b w.begun → In b (begin_at w k ps changes o).begun
-  begun_begin w k ps changes None b i = i
-  begun_begin w k ps changes (Some m) b i = begun_begin_by w k ps changes m (begin_refusal m ps changes) b i
-
-  begun_give_up_by : (w : World) (k : ℕ) (y : Txn) (m : Master) (r : Option Refusal) → (give_up_by w k y m r).begun ≡ w.begun
-  begun_give_up_by w k y m (Some r) = refl
-  begun_give_up_by w k y m None = refl
-
-  begun_give_up : (w : World) (k : ℕ) (y : Txn) (o : Option Master) → (give_up_at w k y o).begun ≡ w.begun
-  begun_give_up w k y None = refl
-  begun_give_up w k y (Some m) = begun_give_up_by w k y m (give_up_refusal m y)
-
-  begun_resend : (w : World) (k p : ℕ) (o : Option Master) → (resend_at w k p o).begun ≡ w.begun
-  begun_resend w k p None = refl
-  begun_resend w k p (Some m) = refl
-
-  begun_change_by : (w : World) (k p : ℕ) (m : Master) (r : Option Refusal) → (change_by w k p m r).begun ≡ w.begun
-  begun_change_by w k p m (Some r) = refl
-  begun_change_by w k p m None = refl
-
-  begun_change : (w : World) (k p : ℕ) (o : Option Master) → (change_at w k p o).begun ≡ w.begun
-  begun_change w k p None = refl
-  begun_change w k p (Some m) = begun_change_by w k p m (plain_refusal m p)
-
-  pub begun_on : (w : World) (s : Step) (b : Begun) → In b w.begun → In b (happens w s).begun
-  begun_on w (Open p k) b i = cond_all (λ (v : World). In b v.begun) (among p w.network.elements && is_some (controller_of w.network.controllers k)) (says w (sent p k Setup ∷ [])) w (λ _. i) (λ _. i)
-  begun_on w (Moment p ks) b i = cond_all (λ (v : World). In b v.begun) (among p w.network.elements) (says w (murmurs p ks)) w (λ _. i) (λ _. i)
-  begun_on w (Change k p) b i = subst (In b) (sym (begun_change w k p (w.masters k))) i
-  begun_on w (Deliver n ok) b i = subst (In b) (sym (begun_delivers w ok (numbered w.sent n))) i
-  begun_on w (Start k r) b i = cond_all (λ (v : World). In b v.begun) (may_start w k r) (starts w k r) w (λ _. i) (λ _. i)
-  begun_on w (Stop k) b i = i
-  begun_on w (Begin k ps changes) b i = begun_begin w k ps changes (w.masters k) b i
-  begun_on w (Give_up k y) b i = subst (In b) (sym (begun_give_up w k y (w.masters k))) i
-  begun_on w (Resend k p) b i = subst (In b) (sym (begun_resend w k p (w.masters k))) i
-
-  begun_run : (ss : List Step) (w : World) (b : Begun) → In b w.begun → In b (run ss w).begun
-  begun_run [] w b i = i
-  begun_run (s ∷ ss) w b i = begun_run ss (happens w s) b (begun_on w s b i)
-
-  pub run_tied : (ss : List Step) (w : World) (c : Core) → Named x parts (run ss w).begun → Tied x parts w c → Goes (run ss w)
-  run_tied [] w c n t = (c, t)
-  run_tied (s ∷ ss) w c n t =
-      let u = happens_tied w c s (λ b i e. n b (begun_run ss (happens w s) b i) e) t in
-      run_tied ss (happens w s) u.0 n u.1
-
-  -- the facts of a whole run
-
-  agreed : (d g : Decision) → (d ≡ Complete → g ≡ Abort → ⊥) → (g ≡ Complete → d ≡ Abort → ⊥) → d ≡ g
-  agreed Complete Complete f h = refl
-  agreed Complete Abort f h = absurd (f refl refl)
-  agreed Abort Complete f h = absurd (h refl refl)
-  agreed Abort Abort f h = refl
-
-  apart : (w : World) (c : Core) → Tied x parts w c → (p q : ℕ) (d g : Decision) → In (Settled_at p x d) w.facts → In (Settled_at q x g) w.facts → d ≡ Complete → g ≡ Abort → ⊥
-  apart w c t p q d g i n a b =
-      let r = t.reached in
-      agree x.epoch parts r.0 p q (ap (λ (v : Core). (v.at p).state) r.1 ∙ (t.marks p).settled d i ∙ ap done a) (ap (λ (v : Core). (v.at q).state) r.1 ∙ (t.marks q).settled g n ∙ ap done b)
-
-  pub agrees : (w : World) → Goes w → (p q : ℕ) (d g : Decision) → In (Settled_at p x d) w.facts → In (Settled_at q x g) w.facts → d ≡ g
-  agrees w u p q d g i n = agreed d g (apart w u.0 u.1 p q d g i n) (apart w u.0 u.1 q p g d n i)
-
-  good_at : (later before : List Fact) (f : Fact) → GoodFacts x parts (later ++ f ∷ before) → GoodFact x parts before f
-  good_at [] before f g = g.0
-  good_at (e ∷ later) before f g = good_at later before f g.1
-
-  pub settles_once : (w : World) → Goes w → (p : ℕ) (d g : Decision) (later before : List Fact) → w.facts ≡ later ++ Settled_at p x d ∷ before → In (Settled_at p x g) before → ⊥
-  settles_once w u p d g later before e = (good_at later before (Settled_at p x d) (subst (GoodFacts x parts) e u.1.good) refl).0 g
-
-  pub readies : (w : World) → Goes w → (p : ℕ) (later before : List Fact) → w.facts ≡ later ++ Settled_at p x Complete ∷ before → (ps : List ℕ) × In (Opened_at p x ps) before × ((q : ℕ) → among q ps ≡ true → In (Prepared_at q x) before)
-  readies w u p later before e = let v = (good_at later before (Settled_at p x Complete) (subst (GoodFacts x parts) e u.1.good) refl).1 refl in (parts, v.0, v.1)
-
-  opened_of : (fs : List Fact) (p : ℕ) (ps : List ℕ) → GoodFacts x parts fs → In (Opened_at p x ps) fs → ps ≡ parts
-  opened_of [] p ps g i = absurd i
-  opened_of (f ∷ fs) p ps g i = ⊎_elim (λ e. let h : GoodFact x parts fs (Opened_at p x ps) = subst (GoodFact x parts fs) (sym e) g.0 in h refl) (λ n. opened_of fs p ps g.1 n) i
-
-  pub opens_alike : (w : World) → Goes w → (p q : ℕ) (ps qs : List ℕ) → In (Opened_at p x ps) w.facts → In (Opened_at q x qs) w.facts → ps ≡ qs
-  opens_alike w u p q ps qs i n = opened_of w.facts p ps u.1.good i ∙ sym (opened_of w.facts q qs u.1.good n)
-
-  -- what a master counts as settled
-  pub settled_there : (w : World) → Goes w → (k : ℕ) (m : Master) (j : Job) (p : ℕ) → w.masters k ≡ Some m → In j m.jobs → j.txn ≡ x → j.settled p ≡ true → (d : Decision) × (j.decision ≡ Some d) × In (Settled_at p x d) w.facts
-  settled_there w u k m j p e i t s =
-      let f = master_is (past w u.0) k (w.masters k) m e (u.1.masters k) in
-      let v = (all_in (JobFine x parts (past w u.0) m.epoch) j m.jobs f.jobs.each i t).settled p s in
-      (v.0, v.1, (u.1.marks p).ended v.0 v.2)
-
-  -- no life says both ends
-  pub says_apart : (w : World) → Goes w → (p q j k : ℕ) (m n : Stamp) → In (sent p j (Request m (Trcomp x))) w.sent → In (sent q k (Request n (Abt x))) w.sent → m.life ≡ n.life → ⊥
-  says_apart w u p q j k m n a b e =
-      let f : RequestFine x parts (past w u.0) j p m (Trcomp x) = u.1.sent (sent p j (Request m (Trcomp x))) a in
-      let g : RequestFine x parts (past w u.0) k q n (Abt x) = u.1.sent (sent q k (Request n (Abt x))) b in
-      let clash : Some Complete ≡ Some Abort = sym (f.means refl).0 ∙ ap u.0.decided e ∙ (g.means refl).0 in
-      cc
-
-  abbrev Follows : World → Core → Type 0
-  Follows w c = ((p : ℕ) → ((c.at p).epoch ≡ (w.at p).epoch) × ((c.at p).state ≡ seen (state_of x (w.at p).records))) × ((k : ℕ) (m : Master) → w.masters k ≡ Some m → c.decided m.epoch ≡ decision_of (find x m.jobs))
-
-  -- the world is what the moves of the core have made
-  pub follows : (w : World) → Goes w → (qs : List ℕ) × (ms : List Move)
-      × ((p : ℕ) → (((moves x.epoch qs ms start).at p).epoch ≡ (w.at p).epoch) × (((moves x.epoch qs ms start).at p).state ≡ seen (state_of x (w.at p).records)))
-      × ((k : ℕ) (m : Master) → w.masters k ≡ Some m → (moves x.epoch qs ms start).decided m.epoch ≡ decision_of (find x m.jobs))
-  follows w u =
-      let c = u.0 in
-      let t = u.1 in
-      let here : Follows w c = ((λ p. (sym (t.elements p).epoch, sym (t.elements p).state)), (λ k m e. (master_is (past w c) k (w.masters k) m e (t.masters k)).jobs.decided)) in
-      let there : Follows w (moves x.epoch parts t.reached.0 start) = subst (Follows w) (sym t.reached.1) here in
-      (parts, t.reached.0, there.0, there.1)
-
-  -- all numbers fit in their 32 bits
-  pub bounded : (w : World) → Goes w → Bounded w
-  bounded w u =
-      let c = u.0 in
-      let t = u.1 in (
-        (λ p k m b i.
-            let f : RequestFine x parts (past w c) k p m b = t.sent (sent p k (Request m b)) i in
-            let l : m.life < 2 ^ 32 = (request_low (past w c) k p m b f).0 in
-            let n : m.count ≤ last_count = f.low in
-            (l, omega arith)),
-        (λ p. let l = (t.elements p).low in let n : (w.at p).sequence ≤ last_count = l.1 in (l.0, omega arith)),
-        (λ k m e.
-            let f = master_is (past w c) k (w.masters k) m e (t.masters k) in
-            let n : m.begun ≤ last_count = f.low in
-            let g : m.epoch ≡ 256 * f.life.0 + k = f.life.2 in
-            let i : k < 256 = f.life.3 in
-            let j : f.life.0 < 2 ^ 24 = f.life.4 in (
-              omega arith,
-              omega arith,
-              (λ p.
-                  let l = (f.peers p).low in
-                  let a : (m.at p).last ≤ last_count = l.0 in
-                  let b : (m.at p).queries ≤ last_count = l.1 in
-                  (omega arith, omega arith)),
-            )),
-      )

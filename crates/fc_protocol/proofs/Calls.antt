@@ -1,7 +1,7 @@
 -- What a call that is not refused shows.
-use Rattle.std.proofs.Common.{◌≡◌, ℕ, ◌+◌, ◌<◌, ◌≤◌, ◌||◌, not, nat_lt, nat_le, Bool, true, false, List, length, Option, Some, None, refl, arith}
+use Rattle.std.proofs.Common.{◌≡◌, ℕ, ◌+◌, ◌<◌, ◌≤◌, ◌||◌, nat_lt, nat_le, Bool, true, false, List, length, Option, Some, None, refl, arith}
 use Rattle.fc_protocol.specs.Collections.{or_next}
-use Rattle.fc_protocol.specs.MasterMachine.{Master, Refusal, Deposed, TooMany, Spent, refused_if, deposed_by, part_refusal, first_refusal, any_spent, begin_refusal, plain_refusal, last_count}
+use Rattle.fc_protocol.specs.MasterMachine.{Master, Refusal, TooMany, Spent, refused_if, deposed_by, part_refusal, first_refusal, any_spent, begin_refusal, plain_refusal, last_count}
 
 or_none : (a b : Option Refusal) → or_next a b ≡ None → (a ≡ None) × (b ≡ None)
 or_none None b e = (refl, e)

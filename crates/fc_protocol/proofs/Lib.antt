@@ -14,6 +14,7 @@ pub mod Deciding
 pub mod Calls
 pub mod Sending
 pub mod Binding
+pub mod Runs
 pub mod Numbers
 pub mod Stale
 pub mod Lasting

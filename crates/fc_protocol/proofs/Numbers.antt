@@ -15,7 +15,8 @@ use Rattle.fc_protocol.proofs.Puts.{put_here, both_first, both_second}
 use Rattle.fc_protocol.proofs.Basics.{In, both, cond_true, same_true, same_of, put_rest}
 use Rattle.fc_protocol.proofs.Facts.{Past, Lives, Named}
 use Rattle.fc_protocol.proofs.Hears.{cond_all}
-use Rattle.fc_protocol.proofs.Binding.{same_life, fresh_life, may_start_is, Goes, run_tied, first_tied, agrees, settles_once, readies, opens_alike, settled_there, says_apart, follows, bounded}
+use Rattle.fc_protocol.proofs.Binding.{same_life, fresh_life, may_start_is, Goes, first_tied}
+use Rattle.fc_protocol.proofs.Runs.{run_tied, agrees, settles_once, readies, opens_alike, settled_there, says_apart, follows, bounded}
 
 abbrev Alike : Master → Master → Type 0
 Alike m n = (n.epoch ≡ m.epoch) × (n.begun ≡ m.begun)
