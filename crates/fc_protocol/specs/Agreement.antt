@@ -45,6 +45,7 @@ BegunOnce w = (a b : Begun) → In a w.begun → In b w.begun → a.txn ≡ b.tx
 abbrev pub SaysOnce : World → Type 0
 SaysOnce w = (x : Txn) (p q j k : ℕ) (m n : Stamp) → In (sent p j (Request m (Trcomp x))) w.sent → In (sent q k (Request n (Abt x))) w.sent → m.life ≡ n.life → ⊥
 
+-- the decision of a job, where there is one
 abbrev pub decision_of : Option Job → Option Decision
 decision_of None = None
 decision_of (Some j) = j.decision

@@ -13,6 +13,7 @@ use Rattle.fc_protocol.specs.declared.states.Decision.TheVariants.{Complete}
 use Rattle.fc_protocol.specs.declared.verdict.Verdict.{Verdict}
 use Rattle.fc_protocol.specs.declared.verdict.Verdict.TheVariants.{Claim as Claims, Unclaimed, Stale, Again, Gap, Next}
 
+-- what an element keeps: its fence, the kept reply, its records and its controller
 pub record ElementState : Type 0 where
   pub epoch : ℕ  -- 0 where no controller has claimed it
   pub master : ℕ
@@ -22,6 +23,7 @@ pub record ElementState : Type 0 where
   pub ce : ℕ  -- the controller that may change it while it is unclaimed, then the master
   pub last_ce : ℕ  -- the one before
 
+-- an element that no controller has claimed
 abbrev pub new_element : ℕ → ElementState
 new_element ce = record { epoch = 0; master = 0; sequence = 0; kept = None; records = []; ce = ce; last_ce = 0 }
 
@@ -39,10 +41,12 @@ pub record Circumstance : Type 0 where
 abbrev pub is_element : ℕ → Bool
 is_element p = nat_lt 0 p && nat_lt p (2 ^ 30)
 
+-- whether the list rises from above n and has IDs of elements alone
 abbrev pub rises_above : ℕ → List ℕ → Bool
 rises_above n [] = true
 rises_above n (p ∷ ps) = (nat_lt n p && is_element p) && rises_above p ps
 
+-- whether these are participants with p among them
 abbrev pub takes_part : ℕ → List ℕ → Bool
 takes_part p ps = among p ps && (rises_above 0 ps && nat_le (length ps) 64)
 
@@ -52,9 +56,11 @@ pub record Acts : Type 0 where
   pub code : ℕ
   pub facts : List Fact
 
+-- what a turn of the phase of x does at p
 abbrev pub after : ℕ → Turn → Txn → List ℕ → List TxnEntry → Acts
 after p t x ps ns = record { records = noted x ps t.new ns; code = t.code; facts = facts_of p x ps t.events }
 
+-- nothing but a code
 abbrev pub idles : List TxnEntry → ℕ → Acts
 idles ns code = record { records = ns; code = code; facts = [] }
 
@@ -81,6 +87,7 @@ pub record Heard : Type 0 where
   pub says : Option Message
   pub facts : List Fact
 
+-- an element that changes nothing and answers this
 abbrev pub only_says : ElementState → Option Message → Heard
 only_says el m = record { element = el; says = m; facts = [] }
 
@@ -119,6 +126,7 @@ claimed_with p el k quiet e m = record {
   facts = Claimed_at p e ∷ undone_facts p el.records;
 }
 
+-- what an element does with a Config of this verdict
 abbrev pub by_verdict : ℕ → ElementState → ℕ → Circumstance → Stamp → Body → Verdict → Heard
 by_verdict p el k c m b (Claims e) = claimed_with p el k c.quiet e m
 by_verdict p el k c m b Unclaimed = only_says el (reply c.quiet m (unclaimed_code (k == el.ce) c.plain b))
@@ -127,12 +135,14 @@ by_verdict p el k c m b Again = only_says el el.kept
 by_verdict p el k c m b Gap = only_says el (reply c.quiet m invalid_parameters)
 by_verdict p el k c m b Next = next_with el c.quiet m (acts p el.epoch c b el.records)
 
+-- what an element does with a Config: it refuses what does not fit, and else goes by the fence
 abbrev pub configured : ℕ → ElementState → ℕ → Circumstance → Stamp → Body → Heard
 configured p el k c m b =
     if c.misfit == 0
     then by_verdict p el k c m b (judge el.epoch el.master el.sequence k m (claim_of b))
     else only_says el (reply c.quiet m c.misfit)
 
+-- the answer to a Query: one that does not fit is answered without an epoch
 abbrev pub answered : Circumstance → Stamp → Message → Option Message
 answered c m answer = if c.misfit == 0 then Some answer else Some (Unread m None)
 
@@ -149,5 +159,6 @@ by_body p el k c m Plain = configured p el k c m Plain
 by_body p el k c m Ask = only_says el (answered c m (Holds m el.epoch (held el.records)))
 by_body p el k c m (Ask_record x) = only_says el (answered c m (Tells m el.epoch (seen (state_of x el.records))))
 
+-- an element p hears a request of the controller k, or loses it
 abbrev pub hears : ℕ → ElementState → ℕ → Circumstance → Stamp → Body → Heard
 hears p el k c m b = if c.unheard then only_says el None else by_body p el k c m b

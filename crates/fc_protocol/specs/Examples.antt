@@ -20,9 +20,11 @@ first_controller = 1073741825
 abbrev pub second_controller : ℕ
 second_controller = 1073741826
 
+-- two elements, which start with the first controller
 abbrev pub pair : Network
 pair = record { elements = 1 ∷ 2 ∷ []; controllers = first_controller ∷ second_controller ∷ []; first_ce = λ _. first_controller }
 
+-- one element
 abbrev pub lone : Network
 lone = record { elements = 1 ∷ []; controllers = first_controller ∷ []; first_ce = λ _. first_controller }
 
@@ -34,6 +36,7 @@ smooth = record { unheard = false; misfit = 0; quiet = false; rest = 0; plain = 
 abbrev pub refusing : Circumstance
 refusing = record { unheard = false; misfit = 0; quiet = false; rest = read_only; plain = 0; shape = 0; others = [] }
 
+-- a message arrives and all goes well
 abbrev pub deliver : ℕ → Step
 deliver i = Deliver i smooth
 
@@ -86,15 +89,19 @@ pub record JobLine : Type 0 where
   pub decision : Option Decision
   pub settled : Bool
 
+-- the transaction that the first controller begins
 abbrev pub the_txn : Txn
 the_txn = record { epoch = 257; number = 1 }
 
+-- the line of an element, with its record of that transaction
 abbrev pub element_line : ElementState → ElementLine
 element_line el = record { epoch = el.epoch; ce = el.ce; sequence = el.sequence; state = state_of the_txn el.records }
 
+-- the line of a job
 abbrev pub job_line : Job → JobLine
 job_line j = record { decision = j.decision; settled = is_settled j }
 
+-- the line of the job of that transaction, where the controller runs and has one
 abbrev pub job_of : Option Master → Option JobLine
 job_of None = None
 job_of (Some m) = option_map job_line (find the_txn m.jobs)
@@ -106,6 +113,7 @@ sent_since zero (s ∷ ss) = s.message ∷ sent_since zero ss
 sent_since (suc n) [] = []
 sent_since (suc n) (s ∷ ss) = sent_since n ss
 
+-- the world after these steps
 abbrev pub after_steps : Network → List Step → World
 after_steps n ss = run ss (first_world n)
 

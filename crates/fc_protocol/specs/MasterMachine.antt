@@ -25,6 +25,7 @@ pub record Peer : Type 0 where
   pub last : ℕ  -- the last sequence of a Config, 0 before the first
   pub queries : ℕ  -- how many Queries were sent
 
+-- one life of a controller
 pub record Master : Type 0 where
   pub epoch : ℕ
   pub elements : List ℕ
@@ -33,12 +34,15 @@ pub record Master : Type 0 where
   pub begun : ℕ  -- how many transactions this life has begun
   pub deposed : Option ℕ  -- the greatest epoch above its own that an answer has held
 
+-- an element that has not been heard of
 abbrev pub new_peer : Peer
 new_peer = record { met = false; claimed = false; answered = false; doubt = false; lost = false; waits = None; last = 0; queries = 0 }
 
+-- a life of the epoch e over these elements
 abbrev pub new_master : ℕ → List ℕ → Master
 new_master e es = record { epoch = e; elements = es; at = λ _. new_peer; jobs = []; begun = 0; deposed = None }
 
+-- the master with another mark for p
 abbrev pub at_put : Master → ℕ → Peer → Master
 at_put m p y = record m { at = put m.at p y }
 
@@ -52,6 +56,7 @@ last_count = 2 ^ 32 - 1
 abbrev pub count_of : Body → Peer → ℕ
 count_of b y = if is_query b then y.queries else y.last
 
+-- the message, where its count is not used up
 abbrev pub unspent : Peer → Option Body → Option Body
 unspent y None = None
 unspent y (Some b) = if nat_lt (count_of b y) last_count then Some b else None
@@ -72,6 +77,7 @@ due m p =
 abbrev pub stamp_of : ℕ → Body → Peer → Stamp
 stamp_of e b y = record { life = e; count = if is_claim b then 0 else count_of b y + 1 }
 
+-- the peer that is sent this
 abbrev pub sending : Peer → Waiting → Peer
 sending y o = record y { waits = Some o; last = if is_query o.body || is_claim o.body then y.last else o.stamp.count; queries = if is_query o.body then o.stamp.count else y.queries }
 
@@ -88,6 +94,7 @@ sends_one k m p (Some b) = record {
   says = sent p k (Request (stamp_of m.epoch b (m.at p)) b) ∷ [];
 }
 
+-- what is said, after these
 abbrev pub and_says : Speaks → List Sent → Speaks
 and_says r ss = record { master = r.master; says = ss ++ r.says }
 
@@ -96,6 +103,7 @@ abbrev pub sends_all : ℕ → List ℕ → Master → Speaks
 sends_all k [] m = record { master = m; says = [] }
 sends_all k (p ∷ ps) m = let r = sends_one k m p (due m p) in and_says (sends_all k ps r.master) r.says
 
+-- each undecided job is decided, where it can be
 abbrev pub decide_all : Master → Master
 decide_all m = record m { jobs = map (λ j. decided_job m.epoch j.decision j) m.jobs }
 
@@ -105,6 +113,7 @@ finish k m = sends_all k m.elements (decide_all m)
 
 -- Hearing
 
+-- the peer after a response with this code to a Config
 abbrev pub after_code : Peer → Body → ℕ → Peer
 after_code y b code = record y {
   waits = None;
@@ -112,12 +121,15 @@ after_code y b code = record y {
   doubt = if code == read_only || (is_claim b && not (code == 0)) then true else y.doubt;
 }
 
+-- the peer is lost
 abbrev pub unmatched : Peer → Peer
 unmatched y = record y { waits = None; lost = true }
 
+-- nothing waits at the peer
 abbrev pub dropped : Peer → Peer
 dropped y = record y { waits = None }
 
+-- an answer has held the greater epoch e: all that waits is dropped
 abbrev pub depose : Master → ℕ → Master
 depose m e = record m { at = λ p. dropped (m.at p); deposed = Some (max (unwrap_or m.deposed 0) e) }
 
@@ -126,10 +138,12 @@ abbrev pub matches : Stamp → Bool → Option Waiting → Bool
 matches s query None = false
 matches s query (Some o) = same_stamp s o.stamp && (if query then is_query o.body else not (is_query o.body))
 
+-- the master after the response of p with this code to what waits there
 abbrev pub coded : Master → ℕ → ℕ → Option Waiting → Master
 coded m p code None = m
 coded m p code (Some o) = record m { at = put m.at p (after_code (m.at p) o.body code); jobs = by_code m.epoch p o.body (code == 0) m.jobs }
 
+-- whether an epoch that is not greater loses the element p
 abbrev pub is_lower : Master → ℕ → ℕ → Bool
 is_lower m p e = nat_lt e m.epoch || ((m.at p).doubt && not (m.at p).claimed)
 
@@ -137,6 +151,7 @@ is_lower m p e = nat_lt e m.epoch || ((m.at p).doubt && not (m.at p).claimed)
 abbrev pub by_epoch : Master → ℕ → ℕ → Master → Master
 by_epoch m p e good = if nat_lt m.epoch e then depose m e else (if is_lower m p e then at_put m p (unmatched (m.at p)) else good)
 
+-- the peer has answered the ask
 abbrev pub after_ask : Peer → Peer
 after_ask y = record y { waits = None; doubt = false; answered = true }
 
@@ -153,6 +168,7 @@ held_by m p e ns Plain = m
 held_by m p e ns Ask = by_epoch m p e (record m { at = put m.at p (after_ask (m.at p)); jobs = discover ns m.jobs })
 held_by m p e ns (Ask_record x) = at_put m p (unmatched (m.at p))
 
+-- the master after the answer to an ask, by what waits at p
 abbrev pub held_told : Master → ℕ → ℕ → List TxnEntry → Option Waiting → Master
 held_told m p e ns None = m
 held_told m p e ns (Some o) = held_by m p e ns o.body
@@ -170,6 +186,7 @@ record_by m p e s Plain = m
 record_by m p e s Ask = at_put m p (unmatched (m.at p))
 record_by m p e s (Ask_record x) = by_epoch m p e (record m { at = put m.at p (dropped (m.at p)); jobs = on_job x (answered_by p (answer e s)) m.jobs })
 
+-- the master after the answer to a record ask, by what waits at p
 abbrev pub record_told : Master → ℕ → ℕ → Seen → Option Waiting → Master
 record_told m p e s None = m
 record_told m p e s (Some o) = record_by m p e s o.body
@@ -221,6 +238,7 @@ pub data Refusal : Type 0 where
   Unknown : Refusal
   Decided : Decision → Refusal
 
+-- the refusal, where the test holds
 abbrev pub refused_if : Bool → Refusal → Option Refusal
 refused_if true r = Some r
 refused_if false r = None
@@ -230,6 +248,7 @@ abbrev pub unsettled_at : ℕ → List Job → Option Txn
 unsettled_at p [] = None
 unsettled_at p (j ∷ js) = if among p j.parts && not (is_settled j) then Some j.txn else unsettled_at p js
 
+-- whether it is a plain change
 abbrev pub is_plain : Body → Bool
 is_plain (Claim w) = false
 is_plain (Sot x ps) = false
@@ -242,10 +261,12 @@ is_plain Plain = true
 is_plain Ask = false
 is_plain (Ask_record x) = false
 
+-- whether a plain change waits
 abbrev pub plain_waits : Option Waiting → Bool
 plain_waits None = false
 plain_waits (Some o) = is_plain o.body
 
+-- p is busy with this transaction, or with a plain change
 abbrev pub busy_by : Master → ℕ → Option Txn → Option Refusal
 busy_by m p None = refused_if (plain_waits (m.at p).waits) (Busy p None)
 busy_by m p (Some x) = Some (Busy p (Some x))
@@ -255,6 +276,7 @@ abbrev pub part_refusal : Master → ℕ → Option Refusal
 part_refusal m p =
     or_next (refused_if (not (among p m.elements)) (Stranger p)) (or_next (refused_if (not (m.at p).answered || ((m.at p).doubt || (m.at p).lost)) (NotReady p)) (busy_by m p (unsettled_at p m.jobs)))
 
+-- the refusal of the first participant that may take no part
 abbrev pub first_refusal : Master → List ℕ → Option Refusal
 first_refusal m [] = None
 first_refusal m (p ∷ ps) = or_next (part_refusal m p) (first_refusal m ps)
@@ -264,6 +286,7 @@ abbrev pub any_spent : Master → List ℕ → (ℕ → ℕ) → Bool
 any_spent m [] changes = false
 any_spent m (p ∷ ps) changes = nat_lt last_count ((m.at p).last + changes p + 3) || any_spent m ps changes
 
+-- the refusal of a master that is deposed
 abbrev pub deposed_by : Option ℕ → Option Refusal
 deposed_by = option_map (λ e. Deposed e)
 
@@ -276,6 +299,7 @@ begin_refusal m ps changes =
 abbrev pub next_txn : Master → Txn
 next_txn m = record { epoch = m.epoch; number = m.begun + 1 }
 
+-- the master with a job more
 abbrev pub begins : Master → List ℕ → (ℕ → ℕ) → Master
 begins m ps changes = record m { begun = m.begun + 1; jobs = m.jobs ++ new_job (next_txn m) ps changes ∷ [] }
 
@@ -288,9 +312,11 @@ abbrev pub own_job : Txn → List Job → Option Job
 own_job x [] = None
 own_job x (j ∷ js) = if same x j.txn && j.mine then Some j else own_job x js
 
+-- the refusal of what is decided
 abbrev pub decided_by : Option Decision → Option Refusal
 decided_by = option_map (λ d. Decided d)
 
+-- the refusal of what is not begun here, or is decided
 abbrev pub undecided_or : Option Job → Option Refusal
 undecided_or None = Some Unknown
 undecided_or (Some j) = decided_by j.decision
@@ -299,5 +325,6 @@ undecided_or (Some j) = decided_by j.decision
 abbrev pub give_up_refusal : Master → Txn → Option Refusal
 give_up_refusal m x = or_next (deposed_by m.deposed) (undecided_or (own_job x m.jobs))
 
+-- the master where its job of x is given up
 abbrev pub gives_up : Master → Txn → Master
 gives_up m x = record m { jobs = map (given_up x) m.jobs }

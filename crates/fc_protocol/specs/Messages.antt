@@ -4,6 +4,7 @@ use Rattle.fc_base.specs.Ids.{Txn}
 use Rattle.fc_protocol.specs.declared.answers.TxnEntry.{TxnEntry}
 use Rattle.fc_protocol.specs.declared.states.Seen.{Seen}
 
+-- whether two transactions are the same
 abbrev pub same : Txn → Txn → Bool
 same x y = x.epoch == y.epoch && x.number == y.number
 
@@ -20,6 +21,7 @@ pub record Stamp : Type 0 where
   pub life : ℕ
   pub count : ℕ
 
+-- whether two correlators are the same
 abbrev pub same_stamp : Stamp → Stamp → Bool
 same_stamp m n = m.life == n.life && m.count == n.count
 
@@ -43,6 +45,7 @@ pub data Body : Type 0 where
   Ask : Body  -- a Query of the epoch and of the transactions that are held
   Ask_record : Txn → Body  -- a Query of the epoch and of one record
 
+-- whether it is a Query; else it is a Config
 abbrev pub is_query : Body → Bool
 is_query (Claim w) = false
 is_query (Sot x ps) = false
@@ -55,6 +58,7 @@ is_query Plain = false
 is_query Ask = true
 is_query (Ask_record x) = true
 
+-- whether it is a claim
 abbrev pub is_claim : Body → Bool
 is_claim (Claim w) = true
 is_claim (Sot x ps) = false
@@ -80,6 +84,7 @@ claim_of Plain = None
 claim_of Ask = None
 claim_of (Ask_record x) = None
 
+-- what is said
 pub data Message : Type 0 where
   Setup : Message  -- an element wants an association
   Beat : Message  -- a heartbeat to a controller that wants an answer
@@ -97,5 +102,6 @@ pub record Sent : Type 0 where
   pub controller : ℕ
   pub message : Message
 
+-- the message m between the element p and the controller k
 abbrev pub sent : ℕ → ℕ → Message → Sent
 sent p k m = record { element = p; controller = k; message = m }

@@ -21,6 +21,7 @@ seen (Some RecordPrepared) = Prepared
 seen (Some RecordCompleted) = Completed
 seen (Some RecordAborted) = Aborted
 
+-- a record
 abbrev pub entry : Txn → List ℕ → TxnState → TxnEntry
 entry x ps s = record { txn = x; state = s; participants = ps }
 
@@ -29,6 +30,7 @@ abbrev pub write : Txn → List ℕ → TxnState → List TxnEntry → List TxnE
 write x ps s [] = entry x ps s ∷ []
 write x ps s (n ∷ ns) = if same x n.txn then entry n.txn n.participants s ∷ ns else n ∷ write x ps s ns
 
+-- the records with the new state of x, where there is one
 abbrev pub noted : Txn → List ℕ → Option TxnState → List TxnEntry → List TxnEntry
 noted x ps None ns = ns
 noted x ps (Some s) ns = write x ps s ns
@@ -40,10 +42,12 @@ is_held RecordPrepared = true
 is_held RecordCompleted = false
 is_held RecordAborted = false
 
+-- the records of what is held
 abbrev pub held : List TxnEntry → List TxnEntry
 held [] = []
 held (n ∷ ns) = if is_held n.state then n ∷ held ns else held ns
 
+-- whether anything is held
 abbrev pub any_held : List TxnEntry → Bool
 any_held [] = false
 any_held (n ∷ ns) = is_held n.state || any_held ns
@@ -52,6 +56,7 @@ any_held (n ∷ ns) = is_held n.state || any_held ns
 abbrev pub is_full : List TxnEntry → Bool
 is_full ns = nat_le 4096 (length ns)
 
+-- whether the transaction is started
 abbrev pub still_started : TxnState → Bool
 still_started RecordStarted = true
 still_started RecordPrepared = false
@@ -65,6 +70,7 @@ undone RecordPrepared = RecordPrepared
 undone RecordCompleted = RecordCompleted
 undone RecordAborted = RecordAborted
 
+-- each record of what is started becomes aborted
 abbrev pub all_undone : List TxnEntry → List TxnEntry
 all_undone [] = []
 all_undone (n ∷ ns) = entry n.txn n.participants (undone n.state) ∷ all_undone ns

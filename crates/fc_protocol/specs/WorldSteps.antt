@@ -45,12 +45,15 @@ pub data Step : Type 0 where
   Give_up : ℕ → Txn → Step
   Resend : ℕ → ℕ → Step  -- this controller sends this element again what waits there
 
+-- the world before the first step
 abbrev pub first_world : Network → World
 first_world n = record { network = n; at = λ p. new_element (n.first_ce p); masters = λ _. None; sent = []; used = λ _. []; facts = []; begun = [] }
 
+-- the world where this is sent too
 abbrev pub says : World → List Sent → World
 says w ss = record w { sent = w.sent ++ ss }
 
+-- what the element p says to k, if anything
 abbrev pub spoken : ℕ → ℕ → Option Message → List Sent
 spoken p k None = []
 spoken p k (Some m) = sent p k m ∷ []
@@ -68,9 +71,11 @@ abbrev pub murmurs : ℕ → List ℕ → List Sent
 murmurs p [] = []
 murmurs p (k ∷ ks) = sent p k Other_up ∷ murmurs p ks
 
+-- the world where the element p has heard something of k
 abbrev pub to_element : World → ℕ → ℕ → Heard → World
 to_element w p k h = with_element w p h.element (spoken p k h.says) h.facts
 
+-- the world where the master of k has become this, and says first this and then what is due
 abbrev pub speaks : World → ℕ → List Sent → Speaks → World
 speaks w k first r = with_master w k r.master (w.sent ++ first ++ r.says)
 
@@ -83,6 +88,7 @@ to_master w p k x (Some m) = speaks w k (at_once k m p x) (finish k (heard m p x
 abbrev pub sender : World → ℕ → ℕ
 sender w k = unwrap_or (controller_of w.network.controllers k) 0
 
+-- a message arrives: a request at the element, all else at the controller
 abbrev pub delivered : World → Circumstance → ℕ → ℕ → Message → World
 delivered w c p k Setup = to_master w p k Setup (w.masters k)
 delivered w c p k Beat = to_master w p k Beat (w.masters k)
@@ -94,6 +100,7 @@ delivered w c p k (Unread s e) = to_master w p k (Unread s e) (w.masters k)
 delivered w c p k Other_up = to_master w p k Other_up (w.masters k)
 delivered w c p k Other_down = says w (murmurs p c.others)
 
+-- a message arrives, if there is one of that number
 abbrev pub delivers : World → Circumstance → Option Sent → World
 delivers w c None = w
 delivers w c (Some s) = delivered w c s.element s.controller s.message
@@ -107,12 +114,15 @@ numbered ss (suc i) = slice_get ss i
 abbrev pub is_round : ℕ → Bool
 is_round r = nat_lt 0 r && nat_lt r (2 ^ 24)
 
+-- whether the controller k may begin a life with the round r
 abbrev pub may_start : World → ℕ → ℕ → Bool
 may_start w k r = (is_some (controller_of w.network.controllers k) && is_round r) && (is_none (w.masters k) && not (among r (w.used k)))
 
+-- a new life of k
 abbrev pub starts : World → ℕ → ℕ → World
 starts w k r = record { network = w.network; at = w.at; masters = put w.masters k (Some (new_master (256 * r + k) w.network.elements)); sent = w.sent; used = put w.used k (r ∷ w.used k); facts = w.facts; begun = w.begun }
 
+-- the world where this was begun too
 abbrev pub with_begun : World → Begun → World
 with_begun w b = record { network = w.network; at = w.at; masters = w.masters; sent = w.sent; used = w.used; facts = w.facts; begun = b ∷ w.begun }
 
@@ -121,26 +131,32 @@ abbrev pub begin_by : World → ℕ → List ℕ → (ℕ → ℕ) → Master �
 begin_by w k ps changes m (Some r) = w
 begin_by w k ps changes m None = speaks (with_begun w (record { txn = next_txn m; parts = ps })) k [] (finish k (begins m ps changes))
 
+-- the controller k, where it runs, begins a transaction, or is refused
 abbrev pub begin_at : World → ℕ → List ℕ → (ℕ → ℕ) → Option Master → World
 begin_at w k ps changes None = w
 begin_at w k ps changes (Some m) = begin_by w k ps changes m (begin_refusal m ps changes)
 
+-- the master of k gives x up, or is refused
 abbrev pub give_up_by : World → ℕ → Txn → Master → Option Refusal → World
 give_up_by w k x m (Some r) = w
 give_up_by w k x m None = speaks w k [] (finish k (gives_up m x))
 
+-- the controller k, where it runs, gives x up
 abbrev pub give_up_at : World → ℕ → Txn → Option Master → World
 give_up_at w k x None = w
 give_up_at w k x (Some m) = give_up_by w k x m (give_up_refusal m x)
 
+-- the controller k, where it runs, sends p again what waits there
 abbrev pub resend_at : World → ℕ → ℕ → Option Master → World
 resend_at w k p None = w
 resend_at w k p (Some m) = says w (again k p (m.at p).waits)
 
+-- the master of k sends p a plain change, or is refused
 abbrev pub change_by : World → ℕ → ℕ → Master → Option Refusal → World
 change_by w k p m (Some r) = w
 change_by w k p m None = speaks w k [] (sends_one k m p (Some Plain))
 
+-- the controller k, where it runs, sends p a plain change
 abbrev pub change_at : World → ℕ → ℕ → Option Master → World
 change_at w k p None = w
 change_at w k p (Some m) = change_by w k p m (plain_refusal m p)
