@@ -20,3 +20,6 @@ pub mod Stale
 pub mod Lasting
 pub mod Still
 pub mod Halves
+pub mod Alone
+pub mod Limits
+pub mod OneElement

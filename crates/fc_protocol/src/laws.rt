@@ -4,8 +4,9 @@ ghost use Rattle.std.specs.Prelude.{◌≡◌, ℕ, ◌<◌, List, []};
 ghost use Rattle.fc_protocol.specs.Agreement.{Agree, SettleOnce, Ready, OnePlan, Settled, SettledWhole, BegunOnce, SaysOnce, FollowsCore, Bounded};
 ghost use Rattle.fc_protocol.specs.Core.{Core, Move, moves, start};
 ghost use Rattle.fc_protocol.specs.CoreLaws.{OneEnd, PreparedBefore, PreparedDecided, ReachedDecided, NoLaterAbort, AnswersStay, EndsStay, DecisionsStay};
-ghost use Rattle.fc_protocol.specs.ElementMachine.{ElementState, Circumstance, hears};
+ghost use Rattle.fc_protocol.specs.ElementMachine.{ElementState, new_element, Circumstance, hears};
 ghost use Rattle.fc_protocol.specs.Messages.{Stamp, Body};
+ghost use Rattle.fc_protocol.specs.OneElement.{Arrival, hears_all, PreparedFirst, SettlesOnce, RecordsTell, Distinct, Limited};
 ghost use Rattle.fc_protocol.specs.WorldSteps.{Network, Step, first_world, run};
 
 /// Of one transaction of a life of the epoch `own`, with the participants `parts`, over every list of moves from the start; and, where it says so, over every further list of moves.
@@ -37,4 +38,14 @@ pub fn agreement()
 /// A request of a life below an element's epoch changes nothing there, in any part, and gives no fact, whoever sends it and whatever it says.
 pub fn fenced()
     ensures { (p : ℕ) (el : ElementState) (k : ℕ) (c : Circumstance) (m : Stamp) (b : Body) → m.life < el.epoch → ((hears p el k c m b).element ≡ el) × ((hears p el k c m b).facts ≡ []) }
+{}
+
+/// Of one element by itself, whatever requests it is sent, by whomever: it completes only what it has prepared and settles a transaction at most once, its records tell what it has settled,
+/// no two are of one transaction, at most one is held, and there are at most 4,096.
+pub fn one_element()
+    ensures prepared_first { (p ce : ℕ) (arrivals : List Arrival) → PreparedFirst p (hears_all p arrivals (new_element ce) []).facts }
+    ensures settles_once { (p ce : ℕ) (arrivals : List Arrival) → SettlesOnce p (hears_all p arrivals (new_element ce) []).facts }
+    ensures records_tell { (p ce : ℕ) (arrivals : List Arrival) → RecordsTell p (hears_all p arrivals (new_element ce) []).element.records (hears_all p arrivals (new_element ce) []).facts }
+    ensures distinct { (p ce : ℕ) (arrivals : List Arrival) → Distinct (hears_all p arrivals (new_element ce) []).element.records }
+    ensures limited { (p ce : ℕ) (arrivals : List Arrival) → Limited (hears_all p arrivals (new_element ce) []).element.records }
 {}
