@@ -68,11 +68,11 @@ named_low : (ks : List ℕ) (c : ℕ) → is_some (controller_of ks c) ≡ true 
 named_low [] c e = cc
 named_low (k ∷ ks) c e = ⊎_elim (λ u. let v : k % 256 ≡ c = eqb-true (k % 256) c u in omega arith) (λ u. named_low ks c (sym (ap is_some (cond_false (k % 256 == c) (Some k) (controller_of ks c) u)) ∙ e)) (both (k % 256 == c))
 
-pub may_start_is : (w : World) (k r : ℕ) → may_start w k r ≡ true → (k < 256) × (r < 2 ^ 24) × (among r (w.used k) ≡ false)
+pub may_start_is : (w : World) (k r : ℕ) → may_start w k r ≡ true → (k < 256) × ((r < 2 ^ 24) × (0 < r)) × (among r (w.used k) ≡ false)
 may_start_is w k r e =
     let named = both_first (is_some (controller_of w.network.controllers k) && is_round r) _ e in
     let free = both_second (is_some (controller_of w.network.controllers k) && is_round r) _ e in
-    (named_low w.network.controllers k (both_first (is_some (controller_of w.network.controllers k)) _ named), below _ _ (both_second (nat_lt 0 r) _ (both_second (is_some (controller_of w.network.controllers k)) _ named)), not_false _ (both_second (is_none (w.masters k)) _ free))
+    (named_low w.network.controllers k (both_first (is_some (controller_of w.network.controllers k)) _ named), (below _ _ (both_second (nat_lt 0 r) _ (both_second (is_some (controller_of w.network.controllers k)) _ named)), below _ _ (both_first (nat_lt 0 r) _ (both_second (is_some (controller_of w.network.controllers k)) _ named))), not_false _ (both_second (is_none (w.masters k)) _ free))
 
 in_numbered : (s : Sent) (ss : List Sent) (i : ℕ) → numbered ss i ≡ Some s → In s ss
 in_numbered s ss zero e = cc
@@ -292,7 +292,7 @@ module _ (x : Txn) (parts : List ℕ) where
   delivers_tied w c ok i (Some s) t e = delivered_tied w c ok s.element s.controller s.message t (in_numbered s w.sent i e)
 
   -- a life begins
-  start_tied : (w : World) (c : Core) (k r : ℕ) → Tied x parts w c → k < 256 → r < 2 ^ 24 → among r (w.used k) ≡ false → Tied x parts (starts w k r) c
+  start_tied : (w : World) (c : Core) (k r : ℕ) → Tied x parts w c → k < 256 → (r < 2 ^ 24) × (0 < r) → among r (w.used k) ≡ false → Tied x parts (starts w k r) c
   start_tied w c k r t small few new =
       let h = past w c in
       let g = past (starts w k r) c in
@@ -306,7 +306,7 @@ module _ (x : Txn) (parts : List ℕ) where
         born = λ b. b;
       } in
       let fresh = λ (j : ℕ) (v : Lives h j e). fresh_life w c k r j small new v in
-      let life : Lives g k e = (r, subst (In r) (sym (put_here w.used k (r ∷ w.used k))) (inl refl), refl, small, few) in
+      let life : Lives g k e = (r, subst (In r) (sym (put_here w.used k (r ∷ w.used k))) (inl refl), refl, small, few.0, few.1) in
       record {
         reached = t.reached;
         elements = λ q. el_on x parts h g l q (w.at q) (c.at q) (c.at q) refl (t.elements q);

@@ -32,7 +32,7 @@ past w c = record { core = c; sent = w.sent; used = w.used; begun = w.begun }
 
 -- e is the epoch of a life of k
 abbrev pub Lives : Past → ℕ → ℕ → Type 0
-Lives h k e = (r : ℕ) × In r (h.used k) × (e ≡ 256 * r + k) × (k < 256) × (r < 2 ^ 24)
+Lives h k e = (r : ℕ) × In r (h.used k) × (e ≡ 256 * r + k) × (k < 256) × (r < 2 ^ 24) × (0 < r)
 
 abbrev pub Asked : Past → ℕ → ℕ → Stamp → Body → Type 0
 Asked h p k s b = In (sent p k (Request s b)) h.sent
@@ -243,7 +243,7 @@ module _ (x : Txn) (parts : List ℕ) where
 
   module _ (h g : Past) (l : Later h g) where
     pub lives_on : (k e : ℕ) → Lives h k e → Lives g k e
-    lives_on k e t = (t.0, l.used k t.0 t.1, t.2, t.3, t.4)
+    lives_on k e t = (t.0, l.used k t.0 t.1, t.2, t.3, t.4, t.5)
 
     pub means_on : (e p : ℕ) (b : Body) → Means h e p b → Means g e p b
     means_on e p (Claim w) m = tt

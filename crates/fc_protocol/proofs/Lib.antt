@@ -23,3 +23,13 @@ pub mod Halves
 pub mod Alone
 pub mod Limits
 pub mod OneElement
+pub mod Calm
+pub mod RoundStart
+pub mod RoundRuns
+pub mod RoundMasters
+pub mod RoundSpeaks
+pub mod RoundElements
+pub mod Round
+pub mod Duty
+pub mod Taking
+pub mod Sends

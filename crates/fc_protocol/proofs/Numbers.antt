@@ -89,21 +89,21 @@ all_alike k (p ∷ ps) m = let n = (sends_one k m p (due m p)).master in alike_t
 finish_alike : (k : ℕ) (m : Master) → Alike m (finish k m).master
 finish_alike k m = all_alike k m.elements (decide_all m)
 
-record Numbered (h : Past) (k : ℕ) (m : Master) : Type 0 where
-  life : Lives h k m.epoch
-  numbers : (b : Begun) → In b h.begun → b.txn.epoch ≡ m.epoch → b.txn.number ≤ m.begun
+pub record Numbered (h : Past) (k : ℕ) (m : Master) : Type 0 where
+  pub life : Lives h k m.epoch
+  pub numbers : (b : Begun) → In b h.begun → b.txn.epoch ≡ m.epoch → b.txn.number ≤ m.begun
 
-abbrev LifeNumbered : Past → ℕ → Option Master → Type 0
+abbrev pub LifeNumbered : Past → ℕ → Option Master → Type 0
 LifeNumbered h k None = Unit {0}
 LifeNumbered h k (Some m) = Numbered h k m
 
-abbrev at_start : World → Past
+abbrev pub at_start : World → Past
 at_start w = record { core = start; sent = []; used = w.used; begun = w.begun }
 
-record Ids (w : World) : Type 0 where
-  lives : (k : ℕ) → LifeNumbered (at_start w) k (w.masters k)
-  owners : (b : Begun) → In b w.begun → (k : ℕ) × Lives (at_start w) k b.txn.epoch
-  once : (a b : Begun) → In a w.begun → In b w.begun → a.txn ≡ b.txn → a.parts ≡ b.parts
+pub record Ids (w : World) : Type 0 where
+  pub lives : (k : ℕ) → LifeNumbered (at_start w) k (w.masters k)
+  pub owners : (b : Begun) → In b w.begun → (k : ℕ) × Lives (at_start w) k b.txn.epoch
+  pub once : (a b : Begun) → In a w.begun → In b w.begun → a.txn ≡ b.txn → a.parts ≡ b.parts
 
 alike_numbered : (h : Past) (k : ℕ) (m n : Master) → Alike m n → Numbered h k m → Numbered h k n
 alike_numbered h k m n a f = record { life = subst (Lives h k) (sym a.0) f.life; numbers = λ b i e. subst (λ v. b.txn.number ≤ v) (sym a.1) (f.numbers b i (e ∙ a.0)) }
@@ -135,17 +135,17 @@ delivers_ids w ok None i = i
 delivers_ids w ok (Some s) i = delivered_ids w ok s.element s.controller s.message i
 
 used_on : (w : World) (k r j e : ℕ) → Lives (at_start w) j e → Lives (at_start (starts w k r)) j e
-used_on w k r j e v = (v.0, put_rest (λ i u. In v.0 (w.used i) → In v.0 u) w.used k (r ∷ w.used k) (λ i. inr i) (λ _ _ i. i) j v.1, v.2, v.3, v.4)
+used_on w k r j e v = (v.0, put_rest (λ i u. In v.0 (w.used i) → In v.0 u) w.used k (r ∷ w.used k) (λ i. inr i) (λ _ _ i. i) j v.1, v.2, v.3, v.4, v.5)
 
 numbered_on : (w : World) (k r j : ℕ) (o : Option Master) → LifeNumbered (at_start w) j o → LifeNumbered (at_start (starts w k r)) j o
 numbered_on w k r j None f = tt
 numbered_on w k r j (Some m) f = record { life = used_on w k r j m.epoch f.life; numbers = f.numbers }
 
-start_ids : (w : World) (k r : ℕ) → k < 256 → r < 2 ^ 24 → among r (w.used k) ≡ false → Ids w → Ids (starts w k r)
+start_ids : (w : World) (k r : ℕ) → k < 256 → (r < 2 ^ 24) × (0 < r) → among r (w.used k) ≡ false → Ids w → Ids (starts w k r)
 start_ids w k r small few new i = record {
   lives = put_rest (LifeNumbered (at_start (starts w k r))) w.masters k (Some (new_master (256 * r + k) w.network.elements))
       (record {
-        life = (r, subst (In r) (sym (put_here w.used k (r ∷ w.used k))) (inl refl), refl, small, few);
+        life = (r, subst (In r) (sym (put_here w.used k (r ∷ w.used k))) (inl refl), refl, small, few.0, few.1);
         numbers = λ b n e. let v = i.owners b n in absurd (fresh_life w start k r v.0 small new (subst (Lives (at_start w) v.0) e v.1));
       })
       (λ j _. numbered_on w k r j (w.masters j) (i.lives j));
@@ -226,7 +226,7 @@ first_ids : (net : Network) → Ids (first_world net)
 first_ids net = record { lives = λ _. tt; owners = λ b i. absurd i; once = λ a b i. absurd i }
 
 -- the participants that x was begun with
-abbrev parts_of : Txn → List Begun → List ℕ
+abbrev pub parts_of : Txn → List Begun → List ℕ
 parts_of x [] = []
 parts_of x (b ∷ bs) = cond (same x b.txn) b.parts (parts_of x bs)
 
@@ -258,8 +258,11 @@ module _ (net : Network) (ss : List Step) where
   abbrev pub world : World
   world = run ss (first_world net)
 
-  goes : (x : Txn) → Goes x (parts_of x world.begun) world
+  pub goes : (x : Txn) → Goes x (parts_of x world.begun) world
   goes x = run_tied x (parts_of x world.begun) ss (first_world net) start (named world x (run_ids ss (first_world net) (first_ids net))) (first_tied x (parts_of x world.begun) net)
+
+  pub ids : Ids world
+  ids = run_ids ss (first_world net) (first_ids net)
 
   pub agree_law : Agree world.facts
   agree_law x p q d g = agrees x (parts_of x world.begun) world (goes x) p q d g

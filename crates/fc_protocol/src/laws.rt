@@ -2,6 +2,7 @@
 
 ghost use Rattle.std.specs.Prelude.{◌≡◌, ℕ, ◌<◌, List, []};
 ghost use Rattle.fc_protocol.specs.Agreement.{Agree, SettleOnce, Ready, OnePlan, Settled, SettledWhole, BegunOnce, SaysOnce, FollowsCore, Bounded};
+ghost use Rattle.fc_protocol.specs.CleanRound.{CleanRound};
 ghost use Rattle.fc_protocol.specs.Core.{Core, Move, moves, start};
 ghost use Rattle.fc_protocol.specs.CoreLaws.{OneEnd, PreparedBefore, PreparedDecided, ReachedDecided, NoLaterAbort, AnswersStay, EndsStay, DecisionsStay};
 ghost use Rattle.fc_protocol.specs.ElementMachine.{ElementState, new_element, Circumstance, hears};
@@ -48,4 +49,10 @@ pub fn one_element()
     ensures records_tell { (p ce : ℕ) (arrivals : List Arrival) → RecordsTell p (hears_all p arrivals (new_element ce) []).element.records (hears_all p arrivals (new_element ce) []).facts }
     ensures distinct { (p ce : ℕ) (arrivals : List Arrival) → Distinct (hears_all p arrivals (new_element ce) []).element.records }
     ensures limited { (p ce : ℕ) (arrivals : List Arrival) → Limited (hears_all p arrivals (new_element ce) []).element.records }
+{}
+
+/// In every world: where a transaction may begin at idle elements, and all messages from there on arrive once and in their order, until none is left, and the operations succeed, every participant completes it,
+/// and the master's job is settled. That no message is left comes after some number of deliveries.
+pub fn clean_rounds()
+    ensures { (n : Network) (steps : List Step) → CleanRound (run steps (first_world n)) }
 {}

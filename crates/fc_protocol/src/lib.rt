@@ -13,7 +13,7 @@ pub use examples::{
     clean_round, failover_aborts, failover_completes, late_give_up_completes,
     refused_change_aborts, repeated_end_prepares_once,
 };
-pub use laws::{agreement, core_laws, fenced, one_element};
+pub use laws::{agreement, clean_rounds, core_laws, fenced, one_element};
 pub use states::{Decision, Seen, TxnState};
 pub use tables::{decisions, readings, refusals, verdicts};
 pub use verdict::Verdict;

@@ -1,0 +1,297 @@
+-- A clean round, from its begin to its end.
+use Rattle.std.proofs.Common.{◌≡◌, ℕ, ◌+◌, ◌*◌, ◌<◌, ◌≤◌, ◌==◌, ◌&&◌, ◌||◌, not, nat_le, Bool, true, false, cond, List, [], ◌∷◌, ◌++◌, length, Option, Some, None, ◌⊎◌, inl, inr, ⊎_elim, refl, sym, ap, ◌∙◌, subst, arith, eqb-true, eq-eqb}
+use Rattle.fc_base.specs.Ids.{Txn}
+use Rattle.fc_protocol.specs.CleanRound.{Idle, Smooth, arrive, Completes, CleanRound}
+use Rattle.fc_protocol.specs.Collections.{In, among, or_next}
+use Rattle.fc_protocol.specs.ElementMachine.{Circumstance, rises_above}
+use Rattle.fc_protocol.specs.Jobs.{Job, body_by, new_job, find, is_settled, all_settled, needs, first_need, decision_body}
+use Rattle.fc_protocol.specs.MasterMachine.{Master, last_count, unspent, stamp_of, sends_all, finish, begin_refusal, next_txn, begins, unsettled_at}
+use Rattle.fc_protocol.specs.Messages.{same, Sot, Request, Sent}
+use Rattle.fc_protocol.specs.Records.{state_of}
+use Rattle.fc_protocol.specs.WorldSteps.{Network, World, Begun, Step, Begin, with_begun, speaks, begin_by, begin_at, happens, first_world, run}
+use Rattle.fc_protocol.specs.declared.answers.TxnEntry.{TxnEntry}
+use Rattle.fc_protocol.specs.declared.states.Decision.{Decision}
+use Rattle.fc_protocol.specs.declared.states.Decision.TheVariants.{Complete}
+use Rattle.fc_protocol.proofs.Basics.{AllOf, cond_true, cond_false, and_true, both, same_true, same_of}
+use Rattle.fc_protocol.proofs.Calls.{MayBegin, may_begin}
+use Rattle.fc_protocol.proofs.Calm.{Calm, LifeCalm, CalmWorld, all_calm, happens_calm}
+use Rattle.fc_protocol.proofs.Duty.{Flags, decide_last, find_last, need_here, due_open, unspent_some}
+use Rattle.fc_protocol.proofs.Facts.{past, Born, MasterFine, LifeFine, Tied}
+use Rattle.fc_protocol.proofs.Numbers.{Numbered, LifeNumbered, at_start, parts_of, goes, ids, settled_law}
+use Rattle.fc_protocol.proofs.Round.{Phase, Asking, Told, Ready, Ending, Ended, Done, flies, votes, is_ready, ends, Ground, JobIn, ElIn, Going}
+use Rattle.fc_protocol.proofs.RoundRuns.{Over, walks}
+use Rattle.fc_protocol.proofs.RoundSpeaks.{Duty, Turned, spoken_going, config_stamp, config_waits, config_last}
+use Rattle.fc_protocol.proofs.Taking.{at_count}
+
+-- no entry, and no job, of a transaction that is new
+no_entry : (x : Txn) (ns : List TxnEntry) → AllOf (λ n. n.txn ≡ x → ⊥) ns → state_of x ns ≡ None
+no_entry x [] a = refl
+no_entry x (n ∷ ns) a = ⊎_elim (λ u. absurd (a.0 (sym (same_true x n.txn u)))) (λ u. cond_false (same x n.txn) (Some n.state) _ u ∙ no_entry x ns a.1) (both (same x n.txn))
+
+no_job : (x : Txn) (js : List Job) → AllOf (λ j. j.txn ≡ x → ⊥) js → find x js ≡ None
+no_job x [] a = refl
+no_job x (j ∷ js) a = ⊎_elim (λ u. absurd (a.0 (sym (same_true x j.txn u)))) (λ u. cond_false (same x j.txn) (Some j) _ u ∙ no_job x js a.1) (both (same x j.txn))
+
+all_on : {A : Type 0} (P Q : A → Type 0) (xs : List A) → ((a : A) → P a → Q a) → AllOf P xs → AllOf Q xs
+all_on P Q [] f h = tt
+all_on P Q (x ∷ xs) f h = (f x h.0, all_on P Q xs f h.1)
+
+-- jobs that are settled at p need nothing there
+settled_in : (j : Job) (ps : List ℕ) (p : ℕ) → all_settled j ps ≡ true → among p ps ≡ true → j.settled p ≡ true
+settled_in j [] p e a = cc
+settled_in j (q ∷ ps) p e a =
+    ⊎_elim (λ u. ap j.settled (eqb-true p q u) ∙ first (j.settled q) (all_settled j ps) e) (λ u. settled_in j ps p (second (j.settled q) (all_settled j ps) e) (or_rest (p == q) (among p ps) u a)) (both (p == q))
+  where
+    first : (a b : Bool) → (a && b) ≡ true → a ≡ true
+    first true b e = refl
+    first false b e = cc
+
+    second : (a b : Bool) → (a && b) ≡ true → b ≡ true
+    second true b e = e
+    second false b e = cc
+
+    or_rest : (a b : Bool) → a ≡ false → (a || b) ≡ true → b ≡ true
+    or_rest true b e f = cc
+    or_rest false b e f = f
+
+need_if : (b : Bool) (j : Job) (p : ℕ) → body_by j p j.decision ≡ None → cond b (body_by j p j.decision) None ≡ None
+need_if true j p e = e
+need_if false j p e = refl
+
+need_none : (j : Job) (p : ℕ) (d : Decision) → j.decision ≡ Some d → j.settled p ≡ true → needs j p ≡ None
+need_none j p d e s = need_if (among p j.parts) j p (ap (body_by j p) e ∙ ap (λ b. cond (b || j.stuck p) None (Some (decision_body j.txn d))) s)
+
+need_out : (j : Job) (p : ℕ) → among p j.parts ≡ false → needs j p ≡ None
+need_out j p a = cond_false (among p j.parts) _ None a
+
+unsettled_if : {P : Type 0} (a b : Bool) (x : Txn) (o : Option Txn) → cond (a && not b) (Some x) o ≡ None → (((a ≡ false) ⊎ (b ≡ true)) → o ≡ None → P) → P
+unsettled_if true true x o e f = f (inr refl) e
+unsettled_if true false x o e f = cc
+unsettled_if false b x o e f = f (inl refl) e
+
+no_needs : (js : List Job) (p : ℕ) → ((j : Job) → In j js → j.settled p ≡ true → (d : Decision) × (j.decision ≡ Some d)) → unsettled_at p js ≡ None → first_need js p ≡ None
+no_needs [] p f e = refl
+no_needs (j ∷ js) p f e =
+    unsettled_if (among p j.parts) (is_settled j) j.txn (unsettled_at p js) e (λ u o.
+    let none : needs j p ≡ None =
+    ⊎_elim (λ a. need_out j p a) (λ s. ⊎_elim (λ a. let g = settled_in j j.parts p s a in let d = f j (inl refl) g in need_none j p d.0 d.1 g) (λ a. need_out j p a) (both (among p j.parts))) u in
+    ap (λ v. or_next v (first_need js p)) none ∙ no_needs js p (λ i n. f i (inr n)) o)
+
+module _ (net : Network) (steps : List Step) (k : ℕ) (m : Master) (q0 : ℕ) (qs : List ℕ) (changes : ℕ → ℕ) where
+  abbrev pub w : World
+  w = run steps (first_world net)
+
+  abbrev pub ps : List ℕ
+  ps = q0 ∷ qs
+
+  abbrev pub x : Txn
+  x = next_txn m
+
+  -- what is told of the world before
+  pub record Premises : Type 0 where
+    pub runs : w.masters k ≡ Some m
+    pub may : begin_refusal m ps changes ≡ None
+    pub rising : rises_above 0 ps ≡ true
+    pub idle : (p : ℕ) → among p ps ≡ true → Idle w k m p
+
+  module _ (h : Premises) where
+    calm : Calm m
+    calm = subst LifeCalm h.runs (all_calm net steps k)
+
+    begin : MayBegin m ps changes
+    begin = may_begin m ps changes h.may
+
+    numbered : Numbered (at_start w) k m
+    numbered = subst (LifeNumbered (at_start w) k) h.runs ((ids net steps).lives k)
+
+    -- the transaction is new
+    unborn : (b : Begun) → In b w.begun → b.txn ≡ x → ⊥
+    unborn b i e =
+        let low : b.txn.number ≤ m.begun = numbered.numbers b i (ap (λ (t : Txn). t.epoch) e) in
+        let now : b.txn.number ≡ m.begun + 1 = ap (λ (t : Txn). t.number) e in
+        omega arith
+
+    tied : Tied x (parts_of x w.begun) w (goes net steps x).0
+    tied = (goes net steps x).1
+
+    not_born : Born x (parts_of x w.begun) (past w (goes net steps x).0) → ⊥
+    not_born b = unborn b.0 b.1 b.2
+
+    fine : MasterFine x (parts_of x w.begun) (past w (goes net steps x).0) k m
+    fine = subst (LifeFine x (parts_of x w.begun) (past w (goes net steps x).0) k) h.runs (tied.masters k)
+
+    absent : find x m.jobs ≡ None
+    absent = no_job x m.jobs (all_on _ _ m.jobs (λ j f e. not_born (f e).born) fine.jobs.each)
+
+    no_record : (p : ℕ) → state_of x (w.at p).records ≡ None
+    no_record p = no_entry x (w.at p).records (all_on _ _ (w.at p).records (λ n f e. not_born (f e).2) (tied.elements p).entries)
+
+    epoch_some : (m.epoch == 0) ≡ false
+    epoch_some =
+        let l = fine.life in
+        let e : m.epoch ≡ 256 * l.0 + k = l.2 in
+        let r : 0 < l.0 = l.5 in
+        ⊎_elim (λ t. let z : m.epoch ≡ 0 = eqb-true m.epoch 0 t in absurd (omega arith)) (λ t. t) (both (m.epoch == 0))
+
+    le_is : (n o : ℕ) → n ≤ o → nat_le n o ≡ true
+    le_is n o l = grind arith
+
+    ground : Ground w k m ps changes
+    ground = record {
+      set = calm.set;
+      still = calm.still;
+      absent = absent;
+      parts = λ p a. let f = begin.free p a in record {
+        inside = f.inside;
+        need = no_needs m.jobs p (λ j i s. let d = settled_law net steps k m j p h.runs i s in (d.0, d.1)) f.settled;
+        room = begin.room p a;
+        takes = and_true (among p ps) _ a (and_true (rises_above 0 ps) _ h.rising (le_is (length ps) 64 begin.few));
+      };
+      deposed = begin.deposed;
+      epoch = epoch_some;
+    }
+
+    abbrev begun : Begun
+    begun = record { txn = x; parts = ps }
+
+    abbrev base : World
+    base = with_begun w begun
+
+    abbrev job : Job
+    job = new_job x ps changes
+
+    abbrev n : Master
+    n = record m { begun = m.begun + 1; jobs = m.jobs ++ job ∷ [] }
+
+    finish_is : finish k (begins m ps changes) ≡ sends_all k m.elements n
+    finish_is = ap (λ js. sends_all k m.elements (record m { begun = m.begun + 1; jobs = js })) (decide_last m.epoch m.jobs job calm.set)
+
+    begins_is : happens w (Begin k ps changes) ≡ speaks base k [] (sends_all k m.elements n)
+    begins_is = ap (begin_at w k ps changes) h.runs ∙ ap (begin_by w k ps changes m) h.may ∙ ap (speaks base k []) finish_is
+
+    flags : (p : ℕ) → among p ps ≡ true → Flags (m.at p)
+    flags p a = let i = h.idle p a in let f = begin.free p a in record { met = i.met; claimed = i.claimed; answered = f.answered; doubt = f.doubt; lost = f.lost }
+
+    one_count : 0 + 1 ≡ 1
+    one_count = refl
+
+    first_duty : (p : ℕ) → among p ps ≡ true → Duty w k m ps changes base n job [] p (Asking 0)
+    first_duty p a =
+        let i = h.idle p a in
+        let y = m.at p in
+        let f = flags p a in
+        let room : y.last + changes p + 3 ≤ last_count = begin.room p a in
+        let up : y.last + 1 ≡ y.last + 1 + 0 = omega arith in
+        record {
+          need = Some (Sot x ps);
+          due_is = due_open n p f begin.deposed i.waits ∙ ap (unspent y) (need_here m.jobs job p (ground.parts p a).need ∙ cond_true (among p ps) (Some (Sot x ps)) None a) ∙ unspent_some y (Sot x ps) (omega arith);
+          peer = record {
+            flags = record { met = f.met; claimed = f.claimed; answered = f.answered; doubt = f.doubt; lost = f.lost };
+            waits = config_waits m.epoch (Sot x ps) y refl refl ∙ ap (λ t. Some (record { stamp = at_count m.epoch t; body = Sot x ps })) up;
+            sequence = config_last m.epoch (Sot x ps) y refl refl ∙ up;
+          };
+          job = record { low = omega arith; done = refl; answers = refl; settled = refl; stuck = refl };
+          stand = record { epoch = i.epoch; master = i.master; stands = ((let s : (w.at p).sequence ≡ y.last = i.sequence in omega arith), (no_record p, i.free, i.room)) };
+          message = λ b e.
+              let same_b : Sot x ps ≡ b = cc in
+              (refl, sym (ap (λ t. Request (stamp_of m.epoch t y) t) (sym same_b) ∙ ap (λ t. Request t (Sot x ps)) (config_stamp m.epoch (Sot x ps) y refl refl) ∙ ap (λ t. Request (at_count m.epoch t) (Sot x ps)) up));
+          count = one_count;
+        }
+
+    or_same : (q0 == q0 || among q0 qs) ≡ true
+    or_same = or_first (q0 == q0) (among q0 qs) (eq-eqb q0 q0 refl)
+      where
+        or_first : (a b : Bool) → a ≡ true → (a || b) ≡ true
+        or_first true b e = refl
+        or_first false b e = cc
+
+    turned : Turned w k m ps changes base n job [] (λ _. Asking 0)
+    turned = record {
+      epoch = refl;
+      elements = refl;
+      deposed = begin.deposed;
+      jobs = refl;
+      txn = refl;
+      mine = refl;
+      parts = refl;
+      changed = refl;
+      others = λ q a. refl;
+      duties = first_duty;
+      mode = inl (refl, (λ q a. refl), (q0, or_same, refl));
+      on_way = λ t i. absurd i;
+    }
+
+    none_after : (xs : List Sent) → xs ++ [] ≡ xs
+    none_after [] = refl
+    none_after (s ∷ xs) = ap (λ v. s ∷ v) (none_after xs)
+
+    starts : Going w k m ps changes (speaks base k [] (sends_all k m.elements n)) w.sent ([] ++ (sends_all k m.elements n).says) (λ _. Asking 0)
+    starts =
+        spoken_going w k m ps changes base n job [] (λ _. Asking 0) w.sent ground turned (ap (λ ss. ss ++ (sends_all k m.elements n).says) (none_after w.sent)) refl
+        (subst CalmWorld begins_is (happens_calm w (Begin k ps changes) (all_calm net steps)))
+
+    module _ (cs : ℕ → Circumstance) (smooth : (i : ℕ) → Smooth (cs i)) where
+      over : Over w k m ps changes ground cs smooth (happens w (Begin k ps changes)) w.sent (length w.sent + 1)
+      over =
+          subst (λ v. Over w k m ps changes ground cs smooth v w.sent (length w.sent + 1)) (sym begins_is)
+          (walks w k m ps changes ground cs smooth (speaks base k [] (sends_all k m.elements n)) w.sent ([] ++ (sends_all k m.elements n).says) (λ _. Asking 0) (length w.sent + 1) starts refl)
+
+      none_flies : (p : ℕ) → among p ps ≡ true → flies (over.phase p) ≡ false
+      none_flies p a = still (flies (over.phase p)) (over.going.queue.count p a)
+        where
+          still : (b : Bool) → ◌≡◌ {A = ℕ} 0 (cond b 1 0) → b ≡ false
+          still true e = absurd (omega arith)
+          still false e = refl
+
+      not_voting : (i : Phase) → votes i ≡ true → is_ready i ≡ false → flies i ≡ false → ⊥
+      not_voting (Asking d) e f g = cc
+      not_voting (Told d) e f g = cc
+      not_voting Ready e f g = cc
+      not_voting Ending e f g = cc
+      not_voting Ended e f g = cc
+      not_voting Done e f g = cc
+
+      was_done : (i : Phase) → ends i ≡ true → flies i ≡ false → i ≡ Done
+      was_done (Asking d) e f = cc
+      was_done (Told d) e f = cc
+      was_done Ready e f = cc
+      was_done Ending e f = cc
+      was_done Ended e f = cc
+      was_done Done e f = refl
+
+      all_done : (over.going.job.decision ≡ Some Complete) × ((p : ℕ) → among p ps ≡ true → over.phase p ≡ Done)
+      all_done =
+          ⊎_elim (λ u. absurd (not_voting (over.phase u.2.0) (u.1 u.2.0 u.2.1) u.2.2 (none_flies u.2.0 u.2.1))) (λ u. (u.0, (λ p a. was_done (over.phase p) (u.1 p a) (none_flies p a)))) over.going.mode
+
+      settled_all : (j : Job) (rs : List ℕ) → ((p : ℕ) → among p rs ≡ true → j.settled p ≡ true) → all_settled j rs ≡ true
+      settled_all j [] f = refl
+      settled_all j (r ∷ rs) f = and_true (j.settled r) (all_settled j rs) (f r (or_one (r == r) (among r rs) (eq-eqb r r refl))) (settled_all j rs (λ p a. f p (or_two (p == r) (among p rs) a)))
+        where
+          or_one : (a b : Bool) → a ≡ true → (a || b) ≡ true
+          or_one true b e = refl
+          or_one false b e = cc
+
+          or_two : (a b : Bool) → b ≡ true → (a || b) ≡ true
+          or_two true b e = refl
+          or_two false b e = e
+
+      job_settled : (p : ℕ) → among p ps ≡ true → over.going.job.settled p ≡ true
+      job_settled p a = subst (JobIn w k m ps changes p over.going.job) (all_done.1 p a) (over.going.job_in p a)
+
+      pub round : (o : ℕ) × Completes (arrive cs (length w.sent + 1) o (happens w (Begin k ps changes))) k m ps (length w.sent + o)
+      round = (
+        over.steps,
+        record {
+          delivered = ap length (over.going.sent ∙ none_after over.all) ∙ over.count;
+          elements = λ p a. (subst (ElIn w k m ps changes p ((arrive cs (length w.sent + 1) over.steps (happens w (Begin k ps changes))).at p) (arrive cs (length w.sent + 1) over.steps (happens w (Begin k ps changes))).facts) (all_done.1 p a) (over.going.stand p a)).stands;
+          now = over.going.now;
+          runs = over.going.runs;
+          job = over.going.job;
+          found = ap (find x) over.going.jobs ∙ find_last x m.jobs over.going.job absent (same_of x over.going.job.txn (sym over.going.txn));
+          decision = all_done.0;
+          settled = ap (all_settled over.going.job) over.going.parts ∙ settled_all over.going.job ps job_settled;
+        },
+      )
+
+pub clean_round_law : (net : Network) (steps : List Step) → CleanRound (run steps (first_world net))
+clean_round_law net steps k m q0 qs changes r b u i cs s = round net steps k m q0 qs changes (record { runs = r; may = b; rising = u; idle = i }) cs s

@@ -1,0 +1,50 @@
+-- A round in which nothing is lost and nothing goes wrong. This profile's own.
+use Rattle.std.specs.Prelude.{◌≡◌, ℕ, zero, suc, ◌+◌, true, false, List, ◌∷◌, length, Some, None}
+use Rattle.fc_protocol.specs.declared.states.Decision.TheVariants.{Complete}
+use Rattle.fc_protocol.specs.Collections.{In, among}
+use Rattle.fc_protocol.specs.ElementMachine.{Circumstance, rises_above}
+use Rattle.fc_protocol.specs.Jobs.{Job, find, is_settled}
+use Rattle.fc_protocol.specs.MasterMachine.{Master, begin_refusal, next_txn}
+use Rattle.fc_protocol.specs.Records.{any_held, is_full}
+use Rattle.fc_protocol.specs.Trace.{Settled_at}
+use Rattle.fc_protocol.specs.WorldSteps.{World, Deliver, Begin, happens, sender}
+
+-- the element p is idle under the master m of k: it is claimed by this life, has taken all that was sent, holds nothing and has room; and nothing waits there
+pub record Idle (w : World) (k : ℕ) (m : Master) (p : ℕ) : Type 0 where
+  pub epoch : (w.at p).epoch ≡ m.epoch
+  pub master : (w.at p).master ≡ sender w k
+  pub sequence : (w.at p).sequence ≡ (m.at p).last
+  pub free : any_held (w.at p).records ≡ false
+  pub room : is_full (w.at p).records ≡ false
+  pub met : (m.at p).met ≡ true
+  pub claimed : (m.at p).claimed ≡ true
+  pub waits : (m.at p).waits ≡ None
+
+-- the message is heard and fits, its response is sent, and its operations succeed; notices to controllers are free
+pub record Smooth (c : Circumstance) : Type 0 where
+  pub heard : c.unheard ≡ false
+  pub fits : c.misfit ≡ 0
+  pub answers : c.quiet ≡ false
+  pub succeeds : c.rest ≡ 0
+
+-- so many messages arrive in their order, from that of the number i on
+abbrev pub arrive : (ℕ → Circumstance) → ℕ → ℕ → World → World
+arrive cs i zero w = w
+arrive cs i (suc n) w = arrive cs (i + 1) n (happens w (Deliver i (cs i)))
+
+-- this world has delivered everything up to the message of the number n, and the master of k has completed x at all participants
+pub record Completes (v : World) (k : ℕ) (m : Master) (ps : List ℕ) (n : ℕ) : Type 0 where
+  pub delivered : length v.sent ≡ n
+  pub elements : (p : ℕ) → among p ps ≡ true → In (Settled_at p (next_txn m) Complete) v.facts
+  pub now : Master
+  pub runs : v.masters k ≡ Some now
+  pub job : Job
+  pub found : find (next_txn m) now.jobs ≡ Some job
+  pub decision : job.decision ≡ Some Complete
+  pub settled : is_settled job ≡ true
+
+-- a transaction that may begin at idle elements, and whose messages all arrive, once and in their order, is completed at every participant
+abbrev pub CleanRound : World → Type 0
+CleanRound w =
+    (k : ℕ) (m : Master) (q : ℕ) (qs : List ℕ) (changes : ℕ → ℕ) → w.masters k ≡ Some m → begin_refusal m (q ∷ qs) changes ≡ None → rises_above 0 (q ∷ qs) ≡ true → ((p : ℕ) → among p (q ∷ qs) ≡ true → Idle w k m p) → (cs : ℕ → Circumstance) → ((i : ℕ) → Smooth (cs i))
+    → (n : ℕ) × Completes (arrive cs (length w.sent + 1) n (happens w (Begin k (q ∷ qs) changes))) k m (q ∷ qs) (length w.sent + n)
