@@ -1,6 +1,7 @@
 -- A clean round: where each participant stands, and what is on its way.
 use Rattle.std.proofs.Common.{◌≡◌, ℕ, zero, suc, ◌+◌, ◌*◌, ◌-◌, ◌≤◌, ◌==◌, ◌&&◌, not, nat_le, Bool, true, false, cond, List, [], ◌∷◌, ◌++◌, Option, Some, None, ◌⊎◌, inl, inr, ⊎_elim, refl, sym, ap, ◌∙◌, subst, arith, eqb-true, eq-eqb}
 use Rattle.fc_base.specs.Ids.{Txn}
+use Rattle.fc_protocol.specs.CleanRound.{is_notice}
 use Rattle.fc_protocol.specs.Collections.{among, put}
 use Rattle.fc_protocol.specs.ElementMachine.{ElementState, takes_part}
 use Rattle.fc_protocol.specs.Jobs.{Job, find, first_need, answer}
@@ -15,7 +16,7 @@ use Rattle.fc_protocol.specs.declared.states.TxnState.TheVariants.{Started as Re
 use Rattle.fc_protocol.proofs.Basics.{In, AllOf, in_either, cond_true, cond_false, both}
 use Rattle.fc_protocol.proofs.Calm.{Set, CalmWorld}
 use Rattle.fc_protocol.proofs.Duty.{Flags}
-use Rattle.fc_protocol.proofs.Sends.{is_notice, busy, busy_append}
+use Rattle.fc_protocol.proofs.Sends.{busy, busy_append}
 use Rattle.fc_protocol.proofs.Taking.{at_count}
 
 -- where a participant stands: its message of this number is on its way, or the answer to it; it has prepared; TRCOMP is on its way, or the answer; it is done

@@ -1,7 +1,7 @@
 -- A clean round: a message reaches its element.
-use Rattle.std.proofs.Common.{◌≡◌, ℕ, zero, suc, ◌+◌, ◌<◌, ◌≤◌, ◌==◌, ◌&&◌, not, nat_le, Bool, true, false, cond, List, [], ◌∷◌, ◌++◌, append_assoc, Some, None, ◌⊎◌, inl, inr, ⊎_elim, refl, sym, ap, ◌∙◌, subst, arith, eq-eqb}
+use Rattle.std.proofs.Common.{◌≡◌, ℕ, zero, suc, ◌+◌, ◌≤◌, ◌==◌, ◌&&◌, not, nat_le, Bool, true, false, cond, List, [], ◌∷◌, ◌++◌, append_assoc, Some, None, ◌⊎◌, inl, inr, ⊎_elim, refl, sym, ap, ◌∙◌, subst, arith, eq-eqb}
 use Rattle.fc_base.specs.Ids.{Txn}
-use Rattle.fc_protocol.specs.CleanRound.{Smooth}
+use Rattle.fc_protocol.specs.CleanRound.{is_notice, Smooth}
 use Rattle.fc_protocol.specs.Collections.{among, put}
 use Rattle.fc_protocol.specs.ElementMachine.{ElementState, Circumstance, Acts, next_with, hears, admits, takes_part}
 use Rattle.fc_protocol.specs.MasterMachine.{Master, next_txn}
@@ -12,10 +12,11 @@ use Rattle.fc_protocol.specs.WorldSteps.{World, Deliver, sender, murmurs, says, 
 use Rattle.fc_protocol.specs.declared.states.Decision.TheVariants.{Complete}
 use Rattle.fc_protocol.specs.declared.states.TxnState.TheVariants.{Started as RecordStarted, Prepared as RecordPrepared, Completed as RecordCompleted}
 use Rattle.fc_protocol.proofs.Puts.{put_two, put_all, put_here}
-use Rattle.fc_protocol.proofs.Basics.{In, in_right, cond_true, cond_false, and_true, both}
+use Rattle.fc_protocol.proofs.Calm.{not_same}
+use Rattle.fc_protocol.proofs.Basics.{In, in_right, cond_true, cond_false, and_true, both, put_other}
 use Rattle.fc_protocol.proofs.Records.{state_noted}
 use Rattle.fc_protocol.proofs.Round.{Phase, Asking, Told, Ready, Ending, Ended, Done, flies, votes, is_ready, ends, last, left, Ground, Fresh, Stands, ElIn, PeerIn, JobIn, message_of, OnWay, Going, rest_of, queue_on}
-use Rattle.fc_protocol.proofs.Sends.{is_notice, busy}
+use Rattle.fc_protocol.proofs.Sends.{busy}
 use Rattle.fc_protocol.proofs.Taking.{at_count, Expected, sot_taken, mot_taken, eot_taken, trcomp_taken}
 
 none_plus : (n : ℕ) → 0 + n ≡ n
@@ -62,7 +63,7 @@ module _ (w : World) (k : ℕ) (m : Master) (ps : List ℕ) (changes : ℕ → �
     pub votes : votes h ≡ true → votes i ≡ true
     pub ready : is_ready i ≡ false
     pub ends : ends h ≡ true → ends i ≡ true
-    pub less : left w k m ps changes p i < left w k m ps changes p h
+    pub less : left w k m ps changes p i + 1 ≡ left w k m ps changes p h
 
   -- the world where p has taken its message, and answers it
   abbrev pub Answered : World → ℕ → ℕ → Acts → List ℕ → World
@@ -137,20 +138,21 @@ module _ (w : World) (k : ℕ) (m : Master) (ps : List ℕ) (changes : ℕ → �
     }
 
   -- a step of the round: a participant has gone on, and no other has gone back
-  pub record Next (v : World) (before : List Sent) (ph : ℕ → Phase) : Type 0 where
+  pub record Next (v : World) (before : List Sent) (said : Sent) (ph : ℕ → Phase) : Type 0 where
     pub after : List Sent
     pub phase : ℕ → Phase
     pub going : Going w k m ps changes v before after phase
     pub who : ℕ
     pub part : among who ps ≡ true
-    pub less : left w k m ps changes who (phase who) < left w k m ps changes who (ph who)
-    pub rest : (q : ℕ) → among q ps ≡ true → left w k m ps changes q (phase q) ≤ left w k m ps changes q (ph q)
+    pub less : left w k m ps changes who (phase who) + 1 ≡ left w k m ps changes who (ph who)
+    pub rest : (q : ℕ) → among q ps ≡ true → (q == who) ≡ false → left w k m ps changes q (phase q) ≡ left w k m ps changes q (ph q)
+    pub spoken : is_notice said.message ≡ false
 
-  pub less_here : (p : ℕ) (h : Phase) (ph : ℕ → Phase) → left w k m ps changes p h < left w k m ps changes p (ph p) → left w k m ps changes p (put ph p h p) < left w k m ps changes p (ph p)
-  less_here p h ph l = subst (λ v. left w k m ps changes p v < left w k m ps changes p (ph p)) (sym (put_here ph p h)) l
+  pub less_here : (p : ℕ) (h : Phase) (ph : ℕ → Phase) → left w k m ps changes p h + 1 ≡ left w k m ps changes p (ph p) → left w k m ps changes p (put ph p h p) + 1 ≡ left w k m ps changes p (ph p)
+  less_here p h ph l = ap (λ v. left w k m ps changes p v + 1) (put_here ph p h) ∙ l
 
-  pub less_all : (p : ℕ) (h : Phase) (ph : ℕ → Phase) → left w k m ps changes p h < left w k m ps changes p (ph p) → (q : ℕ) → left w k m ps changes q (put ph p h q) ≤ left w k m ps changes q (ph q)
-  less_all p h ph l = put_all (λ q i. left w k m ps changes q i ≤ left w k m ps changes q (ph q)) ph p h (omega arith) (λ q. omega arith)
+  pub less_all : (p : ℕ) (h : Phase) (ph : ℕ → Phase) (q : ℕ) → (q == p) ≡ false → left w k m ps changes q (put ph p h q) ≡ left w k m ps changes q (ph q)
+  less_all p h ph q n = ap (left w k m ps changes q) (put_other ph p h q (not_same q p n))
 
   delivered_is : (v : World) (i : ℕ) (c : Circumstance) (s : Sent) (p n : ℕ) (b : Body) (r : Acts) → numbered v.sent i ≡ Some s → s ≡ sent p k (Request (at_count m.epoch n) b)
       → hears p (v.at p) (sender v k) c (at_count m.epoch n) b ≡ next_with (v.at p) false (at_count m.epoch n) r → happens v (Deliver i c) ≡ Answered v p n r c.others
@@ -179,9 +181,9 @@ module _ (w : World) (k : ℕ) (m : Master) (ps : List ℕ) (changes : ℕ → �
     -- the request of this number is taken, and answered
     requested : (n : ℕ) (b : Body) (r : Acts) (h : Phase) → s ≡ sent p k (Request (at_count m.epoch n) b) → hears p el (sender v k) c (at_count m.epoch n) b ≡ next_with el false (at_count m.epoch n) r → r.code ≡ 0 → Onward p (ph p) h → flies (ph p) ≡ true
         → message_of w k m ps changes p h ≡ Reply (at_count m.epoch n) 0 → PeerIn w k m ps changes p (z.going.now.at p) h → JobIn w k m ps changes p z.going.job h → Stands w k m ps changes p (next_with el false (at_count m.epoch n) r).element (r.facts ++ v.facts) h
-        → Next (happens v (Deliver i c)) (before ++ s ∷ []) ph
+        → Next (happens v (Deliver i c)) (before ++ s ∷ []) s ph
     requested n b r h e x q o f t y j u =
-        subst (λ g. Next g (before ++ s ∷ []) ph) (sym (delivered_is v i c s p n b r z.number e x))
+        subst (λ g. Next g (before ++ s ∷ []) s ph) (sym (delivered_is v i c s p n b r z.number e x))
         (record {
           after = rest ++ more v before s rest ph z.going p n a r q c.others h o f (ap (λ (g : Sent). g.element) e) (ap (λ (g : Sent). is_notice g.message) e) t y j u;
           phase = put ph p h;
@@ -189,7 +191,8 @@ module _ (w : World) (k : ℕ) (m : Master) (ps : List ℕ) (changes : ℕ → �
           who = p;
           part = a;
           less = less_here p h ph o.less;
-          rest = λ q _. less_all p h ph o.less q;
+          rest = λ q _ n. less_all p h ph q n;
+          spoken = ap (λ (g : Sent). is_notice g.message) e;
         })
 
     here : ElIn w k m ps changes p el v.facts (ph p)
@@ -208,7 +211,7 @@ module _ (w : World) (k : ℕ) (m : Master) (ps : List ℕ) (changes : ℕ → �
       votes = λ _. refl;
       ready = refl;
       ends = λ u. let t : false ≡ true = ap ends (sym e) ∙ u in cc;
-      less = subst (λ q. left w k m ps changes p (Told d) < left w k m ps changes p q) (sym e) (omega arith);
+      less = subst (λ q. left w k m ps changes p (Told d) + 1 ≡ left w k m ps changes p q) (sym e) (omega arith);
     }
 
     as_told : (y : Phase → Type 0) (d : ℕ) → ph p ≡ Asking d → y (ph p) → y (Asking d)
@@ -223,7 +226,7 @@ module _ (w : World) (k : ℕ) (m : Master) (ps : List ℕ) (changes : ℕ → �
     stands_at : (d : ℕ) → ph p ≡ Asking d → (el.sequence ≡ last w k m ps changes p + d) × Fresh w k m ps changes el d
     stands_at d e = subst (Stands w k m ps changes p el v.facts) e here.stands
 
-    starts : ph p ≡ Asking 0 → s ≡ sent p k (Request (at_count m.epoch (last w k m ps changes p + 1 + 0)) (Sot the ps)) → Next (happens v (Deliver i c)) (before ++ s ∷ []) ph
+    starts : ph p ≡ Asking 0 → s ≡ sent p k (Request (at_count m.epoch (last w k m ps changes p + 1 + 0)) (Sot the ps)) → Next (happens v (Deliver i c)) (before ++ s ∷ []) s ph
     starts e x =
         let n = last w k m ps changes p + 1 + 0 in
         let j = asking_job 0 e in
@@ -236,7 +239,7 @@ module _ (w : World) (k : ℕ) (m : Master) (ps : List ℕ) (changes : ℕ → �
         state_noted the ps (Some RecordStarted) el.records ∙ ap Some (sym (cond_true (nat_le 0 (changes p)) RecordStarted RecordPrepared (zero_le (changes p)))) in
         requested n (Sot the ps) r (Told 0) x (at_epoch n (Sot the ps) r (sot_taken p el (sender v k) n c (expected n (omega arith)) the ps fit st.1.1 st.1.2 st.1.0)) refl (onward 0 e j.low) (ap flies e) refl (asking_peer 0 e) j (omega arith, stood)
 
-    changes_on : (d : ℕ) → ph p ≡ Asking (suc d) → nat_le (suc d) (changes p) ≡ true → s ≡ sent p k (Request (at_count m.epoch (last w k m ps changes p + 1 + suc d)) (Mot the)) → Next (happens v (Deliver i c)) (before ++ s ∷ []) ph
+    changes_on : (d : ℕ) → ph p ≡ Asking (suc d) → nat_le (suc d) (changes p) ≡ true → s ≡ sent p k (Request (at_count m.epoch (last w k m ps changes p + 1 + suc d)) (Mot the)) → Next (happens v (Deliver i c)) (before ++ s ∷ []) s ph
     changes_on d e l x =
         let n = last w k m ps changes p + 1 + suc d in
         let j = asking_job (suc d) e in
@@ -246,7 +249,7 @@ module _ (w : World) (k : ℕ) (m : Master) (ps : List ℕ) (changes : ℕ → �
         requested n (Mot the) r (Told (suc d)) x (at_epoch n (Mot the) r (mot_taken p el (sender v k) n c (expected n (omega arith)) the st.1)) refl (onward (suc d) e j.low) (ap flies e) refl (asking_peer (suc d) e) j
         (omega arith, (st.1 ∙ ap Some (sym (cond_true (nat_le (suc d) (changes p)) RecordStarted RecordPrepared l))))
 
-    ends_on : (d : ℕ) → ph p ≡ Asking (suc d) → nat_le (suc d) (changes p) ≡ false → s ≡ sent p k (Request (at_count m.epoch (last w k m ps changes p + 1 + suc d)) (Eot the)) → Next (happens v (Deliver i c)) (before ++ s ∷ []) ph
+    ends_on : (d : ℕ) → ph p ≡ Asking (suc d) → nat_le (suc d) (changes p) ≡ false → s ≡ sent p k (Request (at_count m.epoch (last w k m ps changes p + 1 + suc d)) (Eot the)) → Next (happens v (Deliver i c)) (before ++ s ∷ []) s ph
     ends_on d e l x =
         let n = last w k m ps changes p + 1 + suc d in
         let j = asking_job (suc d) e in
@@ -257,7 +260,7 @@ module _ (w : World) (k : ℕ) (m : Master) (ps : List ℕ) (changes : ℕ → �
         (omega arith, (state_noted the [] (Some RecordPrepared) el.records ∙ ap Some (sym (cond_false (nat_le (suc d) (changes p)) RecordStarted RecordPrepared l))))
 
     -- a message of the transaction before its end
-    pub asked : (d : ℕ) → ph p ≡ Asking d → s ≡ sent p k (message_of w k m ps changes p (Asking d)) → Next (happens v (Deliver i c)) (before ++ s ∷ []) ph
+    pub asked : (d : ℕ) → ph p ≡ Asking d → s ≡ sent p k (message_of w k m ps changes p (Asking d)) → Next (happens v (Deliver i c)) (before ++ s ∷ []) s ph
     asked zero e x = starts e x
     asked (suc d) e x =
         let n = last w k m ps changes p + 1 + suc d in
@@ -266,7 +269,7 @@ module _ (w : World) (k : ℕ) (m : Master) (ps : List ℕ) (changes : ℕ → �
         (λ u. ends_on d e u (x ∙ later ∙ ap (λ b. sent p k (Request (at_count m.epoch n) b)) (cond_false _ (Mot the) (Eot the) u))) (both (nat_le (suc d) (changes p)))
 
     -- TRCOMP
-    pub ended : ph p ≡ Ending → s ≡ sent p k (message_of w k m ps changes p Ending) → Next (happens v (Deliver i c)) (before ++ s ∷ []) ph
+    pub ended : ph p ≡ Ending → s ≡ sent p k (message_of w k m ps changes p Ending) → Next (happens v (Deliver i c)) (before ++ s ∷ []) s ph
     ended e x =
         let n = last w k m ps changes p + changes p + 3 in
         let st = subst (Stands w k m ps changes p el v.facts) e here.stands in
@@ -279,5 +282,5 @@ module _ (w : World) (k : ℕ) (m : Master) (ps : List ℕ) (changes : ℕ → �
           votes = λ u. let t : false ≡ true = ap votes (sym e) ∙ u in cc;
           ready = refl;
           ends = λ _. refl;
-          less = subst (λ q. 1 < left w k m ps changes p q) (sym e) (omega arith);
+          less = subst (λ q. 1 + 1 ≡ left w k m ps changes p q) (sym e) (omega arith);
         }) (ap flies e) refl (record { flags = y.flags; waits = y.waits; sequence = y.sequence }) tt (inl refl)

@@ -1,9 +1,9 @@
 -- A clean round, from its begin to its end.
-use Rattle.std.proofs.Common.{◌≡◌, ℕ, ◌+◌, ◌*◌, ◌<◌, ◌≤◌, ◌==◌, ◌&&◌, ◌||◌, not, nat_le, Bool, true, false, cond, List, [], ◌∷◌, ◌++◌, length, Option, Some, None, ◌⊎◌, inl, inr, ⊎_elim, refl, sym, ap, ◌∙◌, subst, arith, eqb-true, eq-eqb}
+use Rattle.std.proofs.Common.{◌≡◌, ℕ, ◌+◌, ◌*◌, ◌<◌, ◌≤◌, ◌==◌, ◌&&◌, ◌||◌, not, nat_le, nat_lt, Bool, true, false, cond, List, [], ◌∷◌, ◌++◌, length, Option, Some, None, ◌⊎◌, inl, inr, ⊎_elim, refl, sym, ap, ◌∙◌, subst, arith, eqb-true, eq-eqb}
 use Rattle.fc_base.specs.Ids.{Txn}
-use Rattle.fc_protocol.specs.CleanRound.{Idle, Smooth, arrive, Completes, CleanRound}
+use Rattle.fc_protocol.specs.CleanRound.{round_count, Idle, Smooth, arrive, Completes, CleanRound}
 use Rattle.fc_protocol.specs.Collections.{In, among, or_next}
-use Rattle.fc_protocol.specs.ElementMachine.{Circumstance, rises_above}
+use Rattle.fc_protocol.specs.ElementMachine.{Circumstance, rises_above, is_element}
 use Rattle.fc_protocol.specs.Jobs.{Job, body_by, new_job, find, is_settled, all_settled, needs, first_need, decision_body}
 use Rattle.fc_protocol.specs.MasterMachine.{Master, last_count, unspent, stamp_of, sends_all, finish, begin_refusal, next_txn, begins, unsettled_at}
 use Rattle.fc_protocol.specs.Messages.{same, Sot, Request, Sent}
@@ -12,14 +12,15 @@ use Rattle.fc_protocol.specs.WorldSteps.{Network, World, Begun, Step, Begin, wit
 use Rattle.fc_protocol.specs.declared.answers.TxnEntry.{TxnEntry}
 use Rattle.fc_protocol.specs.declared.states.Decision.{Decision}
 use Rattle.fc_protocol.specs.declared.states.Decision.TheVariants.{Complete}
+use Rattle.fc_protocol.proofs.Puts.{both_first, both_second}
 use Rattle.fc_protocol.proofs.Basics.{AllOf, cond_true, cond_false, and_true, both, same_true, same_of}
 use Rattle.fc_protocol.proofs.Calls.{MayBegin, may_begin}
 use Rattle.fc_protocol.proofs.Calm.{Calm, LifeCalm, CalmWorld, all_calm, happens_calm}
 use Rattle.fc_protocol.proofs.Duty.{Flags, decide_last, find_last, need_here, due_open, unspent_some}
 use Rattle.fc_protocol.proofs.Facts.{past, Born, MasterFine, LifeFine, Tied}
 use Rattle.fc_protocol.proofs.Numbers.{Numbered, LifeNumbered, at_start, parts_of, goes, ids, settled_law}
-use Rattle.fc_protocol.proofs.Round.{Phase, Asking, Told, Ready, Ending, Ended, Done, flies, votes, is_ready, ends, Ground, JobIn, ElIn, Going}
-use Rattle.fc_protocol.proofs.RoundRuns.{Over, walks}
+use Rattle.fc_protocol.proofs.Round.{Phase, Asking, Told, Ready, Ending, Ended, Done, flies, votes, is_ready, ends, left, Ground, JobIn, ElIn, Going}
+use Rattle.fc_protocol.proofs.RoundRuns.{Once, total, Over, walks}
 use Rattle.fc_protocol.proofs.RoundSpeaks.{Duty, Turned, spoken_going, config_stamp, config_waits, config_last}
 use Rattle.fc_protocol.proofs.Taking.{at_count}
 
@@ -76,6 +77,27 @@ no_needs (j ∷ js) p f e =
     let none : needs j p ≡ None =
     ⊎_elim (λ a. need_out j p a) (λ s. ⊎_elim (λ a. let g = settled_in j j.parts p s a in let d = f j (inl refl) g in need_none j p d.0 d.1 g) (λ a. need_out j p a) (both (among p j.parts))) u in
     ap (λ v. or_next v (first_need js p)) none ∙ no_needs js p (λ i n. f i (inr n)) o)
+
+-- a list that rises has nothing twice
+rises_over : (n : ℕ) (ps : List ℕ) (q : ℕ) → rises_above n ps ≡ true → among q ps ≡ true → n < q
+rises_over n [] q e a = cc
+rises_over n (p ∷ ps) q e a =
+    let first = both_first (nat_lt n p && is_element p) _ e in
+    let low : n < p = below n p (both_first (nat_lt n p) _ first) in
+    ⊎_elim (λ u. let z : q ≡ p = eqb-true q p u in omega arith) (λ u. let l : p < q = rises_over p ps q (both_second (nat_lt n p && is_element p) _ e) (or_rest (q == p) (among q ps) u a) in omega arith) (both (q == p))
+  where
+    below : (m n : ℕ) → nat_lt m n ≡ true → m < n
+    below m n h = grind arith
+
+    or_rest : (a b : Bool) → a ≡ false → (a || b) ≡ true → b ≡ true
+    or_rest true b e f = cc
+    or_rest false b e f = f
+
+rises_once : (n : ℕ) (ps : List ℕ) → rises_above n ps ≡ true → Once ps
+rises_once n [] e = tt
+rises_once n (p ∷ ps) e =
+    let rest = both_second (nat_lt n p && is_element p) _ e in
+    (⊎_elim (λ u. let l : p < p = rises_over p ps p rest u in absurd (omega arith)) (λ u. u) (both (among p ps)), rises_once p ps rest)
 
 module _ (net : Network) (steps : List Step) (k : ℕ) (m : Master) (q0 : ℕ) (qs : List ℕ) (changes : ℕ → ℕ) where
   abbrev pub w : World
@@ -230,11 +252,14 @@ module _ (net : Network) (steps : List Step) (k : ℕ) (m : Master) (q0 : ℕ) (
         spoken_going w k m ps changes base n job [] (λ _. Asking 0) w.sent ground turned (ap (λ ss. ss ++ (sends_all k m.elements n).says) (none_after w.sent)) refl
         (subst CalmWorld begins_is (happens_calm w (Begin k ps changes) (all_calm net steps)))
 
+    once : Once ps
+    once = rises_once 0 ps h.rising
+
     module _ (cs : ℕ → Circumstance) (smooth : (i : ℕ) → Smooth (cs i)) where
-      over : Over w k m ps changes ground cs smooth (happens w (Begin k ps changes)) w.sent (length w.sent + 1)
+      over : Over w k m ps changes ground once cs smooth (happens w (Begin k ps changes)) w.sent (λ _. Asking 0) (length w.sent + 1)
       over =
-          subst (λ v. Over w k m ps changes ground cs smooth v w.sent (length w.sent + 1)) (sym begins_is)
-          (walks w k m ps changes ground cs smooth (speaks base k [] (sends_all k m.elements n)) w.sent ([] ++ (sends_all k m.elements n).says) (λ _. Asking 0) (length w.sent + 1) starts refl)
+          subst (λ v. Over w k m ps changes ground once cs smooth v w.sent (λ _. Asking 0) (length w.sent + 1)) (sym begins_is)
+          (walks w k m ps changes ground once cs smooth (speaks base k [] (sends_all k m.elements n)) w.sent ([] ++ (sends_all k m.elements n).says) (λ _. Asking 0) (length w.sent + 1) starts refl)
 
       none_flies : (p : ℕ) → among p ps ≡ true → flies (over.phase p) ≡ false
       none_flies p a = still (flies (over.phase p)) (over.going.queue.count p a)
@@ -278,12 +303,37 @@ module _ (net : Network) (steps : List Step) (k : ℕ) (m : Master) (q0 : ℕ) (
       job_settled : (p : ℕ) → among p ps ≡ true → over.going.job.settled p ≡ true
       job_settled p a = subst (JobIn w k m ps changes p over.going.job) (all_done.1 p a) (over.going.job_in p a)
 
-      pub round : (o : ℕ) × Completes (arrive cs (length w.sent + 1) o (happens w (Begin k ps changes))) k m ps (length w.sent + o)
+      all_counted : (rs : List ℕ) → ((p : ℕ) → among p rs ≡ true → over.phase p ≡ Done) → total (λ q. left w k m ps changes q (over.phase q)) rs ≡ 0
+      all_counted [] f = refl
+      all_counted (r ∷ rs) f =
+          let a : left w k m ps changes r (over.phase r) ≡ 0 = ap (left w k m ps changes r) (f r (or_one (r == r) (among r rs) (eq-eqb r r refl))) in
+          let b : total (λ q. left w k m ps changes q (over.phase q)) rs ≡ 0 = all_counted rs (λ p c. f p (or_two (p == r) (among p rs) c)) in
+          omega arith
+        where
+          or_one : (a b : Bool) → a ≡ true → (a || b) ≡ true
+          or_one true b e = refl
+          or_one false b e = cc
+
+          or_two : (a b : Bool) → b ≡ true → (a || b) ≡ true
+          or_two true b e = refl
+          or_two false b e = e
+
+      first_count : (rs : List ℕ) → total (λ q. left w k m ps changes q (Asking 0)) rs ≡ round_count changes rs
+      first_count [] = refl
+      first_count (r ∷ rs) = let b : total (λ q. left w k m ps changes q (Asking 0)) rs ≡ round_count changes rs = first_count rs in omega arith
+
+      abbrev end : World
+      end = arrive cs (length w.sent + 1) (length over.since) (happens w (Begin k ps changes))
+
+      pub round : (o : ℕ) × Completes w (arrive cs (length w.sent + 1) o (happens w (Begin k ps changes))) k m ps changes o
       round = (
-        over.steps,
+        length over.since,
         record {
-          delivered = ap length (over.going.sent ∙ none_after over.all) ∙ over.count;
-          elements = λ p a. (subst (ElIn w k m ps changes p ((arrive cs (length w.sent + 1) over.steps (happens w (Begin k ps changes))).at p) (arrive cs (length w.sent + 1) over.steps (happens w (Begin k ps changes))).facts) (all_done.1 p a) (over.going.stand p a)).stands;
+          since = over.since;
+          sent = over.going.sent ∙ none_after (w.sent ++ over.since);
+          delivered = refl;
+          count = let a = over.count in let b = all_counted ps all_done.1 in let c = first_count ps in omega arith;
+          elements = λ p a. (subst (ElIn w k m ps changes p (end.at p) end.facts) (all_done.1 p a) (over.going.stand p a)).stands;
           now = over.going.now;
           runs = over.going.runs;
           job = over.going.job;

@@ -1,10 +1,11 @@
 -- A round in which nothing is lost and nothing goes wrong. This profile's own.
-use Rattle.std.specs.Prelude.{◌≡◌, ℕ, zero, suc, ◌+◌, true, false, List, ◌∷◌, length, Some, None}
+use Rattle.std.specs.Prelude.{◌≡◌, ℕ, zero, suc, ◌+◌, ◌*◌, Bool, true, false, cond, List, [], ◌∷◌, ◌++◌, length, Some, None}
 use Rattle.fc_protocol.specs.declared.states.Decision.TheVariants.{Complete}
 use Rattle.fc_protocol.specs.Collections.{In, among}
 use Rattle.fc_protocol.specs.ElementMachine.{Circumstance, rises_above}
 use Rattle.fc_protocol.specs.Jobs.{Job, find, is_settled}
 use Rattle.fc_protocol.specs.MasterMachine.{Master, begin_refusal, next_txn}
+use Rattle.fc_protocol.specs.Messages.{Message, Setup, Beat, Request, Reply, Holds, Tells, Unread, Other_up, Other_down, Sent}
 use Rattle.fc_protocol.specs.Records.{any_held, is_full}
 use Rattle.fc_protocol.specs.Trace.{Settled_at}
 use Rattle.fc_protocol.specs.WorldSteps.{World, Deliver, Begin, happens, sender}
@@ -32,9 +33,34 @@ abbrev pub arrive : (ℕ → Circumstance) → ℕ → ℕ → World → World
 arrive cs i zero w = w
 arrive cs i (suc n) w = arrive cs (i + 1) n (happens w (Deliver i (cs i)))
 
--- this world has delivered everything up to the message of the number n, and the master of k has completed x at all participants
-pub record Completes (v : World) (k : ℕ) (m : Master) (ps : List ℕ) (n : ℕ) : Type 0 where
-  pub delivered : length v.sent ≡ n
+-- whether it is a notice, or whatever else an element says that is no part of the round
+abbrev pub is_notice : Message → Bool
+is_notice Setup = false
+is_notice Beat = false
+is_notice (Request m b) = false
+is_notice (Reply m c) = false
+is_notice (Holds m e ns) = false
+is_notice (Tells m e t) = false
+is_notice (Unread m e) = false
+is_notice Other_up = true
+is_notice Other_down = false
+
+-- how many of these messages are no notices
+abbrev pub spoken_count : List Sent → ℕ
+spoken_count [] = 0
+spoken_count (s ∷ ss) = cond (is_notice s.message) 0 1 + spoken_count ss
+
+-- for each participant a start, so many changes, an end and TRCOMP, each with its answer
+abbrev pub round_count : (ℕ → ℕ) → List ℕ → ℕ
+round_count changes [] = 0
+round_count changes (p ∷ ps) = 2 * (changes p + 3) + round_count changes ps
+
+-- the world v has delivered all that was sent since w, n messages, and the master of k has completed its next transaction at all participants
+pub record Completes (w v : World) (k : ℕ) (m : Master) (ps : List ℕ) (changes : ℕ → ℕ) (n : ℕ) : Type 0 where
+  pub since : List Sent
+  pub sent : v.sent ≡ w.sent ++ since
+  pub delivered : length since ≡ n
+  pub count : spoken_count since ≡ round_count changes ps
   pub elements : (p : ℕ) → among p ps ≡ true → In (Settled_at p (next_txn m) Complete) v.facts
   pub now : Master
   pub runs : v.masters k ≡ Some now
@@ -47,4 +73,4 @@ pub record Completes (v : World) (k : ℕ) (m : Master) (ps : List ℕ) (n : ℕ
 abbrev pub CleanRound : World → Type 0
 CleanRound w =
     (k : ℕ) (m : Master) (q : ℕ) (qs : List ℕ) (changes : ℕ → ℕ) → w.masters k ≡ Some m → begin_refusal m (q ∷ qs) changes ≡ None → rises_above 0 (q ∷ qs) ≡ true → ((p : ℕ) → among p (q ∷ qs) ≡ true → Idle w k m p) → (cs : ℕ → Circumstance) → ((i : ℕ) → Smooth (cs i))
-    → (n : ℕ) × Completes (arrive cs (length w.sent + 1) n (happens w (Begin k (q ∷ qs) changes))) k m (q ∷ qs) (length w.sent + n)
+    → (n : ℕ) × Completes w (arrive cs (length w.sent + 1) n (happens w (Begin k (q ∷ qs) changes))) k m (q ∷ qs) changes n
