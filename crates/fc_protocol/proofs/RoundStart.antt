@@ -1,11 +1,11 @@
 -- A clean round, from its begin to its end.
 use Rattle.std.proofs.Common.{◌≡◌, ℕ, ◌+◌, ◌*◌, ◌<◌, ◌≤◌, ◌==◌, ◌&&◌, ◌||◌, not, nat_le, nat_lt, Bool, true, false, cond, List, [], ◌∷◌, ◌++◌, length, Option, Some, None, ◌⊎◌, inl, inr, ⊎_elim, refl, sym, ap, ◌∙◌, subst, arith, eqb-true, eq-eqb}
 use Rattle.fc_base.specs.Ids.{Txn}
-use Rattle.fc_protocol.specs.CleanRound.{round_count, Idle, Smooth, arrive, Completes, CleanRound}
+use Rattle.fc_protocol.specs.CleanRound.{Able, round_count, Smooth, arrive, Completes, CleanRound}
 use Rattle.fc_protocol.specs.Collections.{In, among, or_next}
 use Rattle.fc_protocol.specs.ElementMachine.{Circumstance, rises_above, is_element}
 use Rattle.fc_protocol.specs.Jobs.{Job, body_by, new_job, find, is_settled, all_settled, needs, first_need, decision_body}
-use Rattle.fc_protocol.specs.MasterMachine.{Master, last_count, unspent, stamp_of, sends_all, finish, begin_refusal, next_txn, begins, unsettled_at}
+use Rattle.fc_protocol.specs.MasterMachine.{Master, last_count, unspent, stamp_of, sends_all, finish, next_txn, begins, unsettled_at}
 use Rattle.fc_protocol.specs.Messages.{same, Sot, Request, Sent}
 use Rattle.fc_protocol.specs.Records.{state_of}
 use Rattle.fc_protocol.specs.WorldSteps.{Network, World, Begun, Step, Begin, with_begun, speaks, begin_by, begin_at, happens, first_world, run}
@@ -109,14 +109,7 @@ module _ (net : Network) (steps : List Step) (k : ℕ) (m : Master) (q0 : ℕ) (
   abbrev pub x : Txn
   x = next_txn m
 
-  -- what is told of the world before
-  pub record Premises : Type 0 where
-    pub runs : w.masters k ≡ Some m
-    pub may : begin_refusal m ps changes ≡ None
-    pub rising : rises_above 0 ps ≡ true
-    pub idle : (p : ℕ) → among p ps ≡ true → Idle w k m p
-
-  module _ (h : Premises) where
+  module _ (h : Able w k m ps changes) where
     calm : Calm m
     calm = subst LifeCalm h.runs (all_calm net steps k)
 
@@ -344,4 +337,4 @@ module _ (net : Network) (steps : List Step) (k : ℕ) (m : Master) (q0 : ℕ) (
       )
 
 pub clean_round_law : (net : Network) (steps : List Step) → CleanRound (run steps (first_world net))
-clean_round_law net steps k m q0 qs changes r b u i cs s = round net steps k m q0 qs changes (record { runs = r; may = b; rising = u; idle = i }) cs s
+clean_round_law net steps k m p ps changes h cs s = round net steps k m p ps changes h cs s

@@ -69,8 +69,15 @@ pub record Completes (w v : World) (k : ℕ) (m : Master) (ps : List ℕ) (chang
   pub decision : job.decision ≡ Some Complete
   pub settled : is_settled job ≡ true
 
--- a transaction that may begin at idle elements, and whose messages all arrive, once and in their order, is completed at every participant
+-- the master m of the controller k may begin a transaction with these participants, rising, with so many changes for each, and they are idle under it
+pub record Able (w : World) (k : ℕ) (m : Master) (ps : List ℕ) (changes : ℕ → ℕ) : Type 0 where
+  pub runs : w.masters k ≡ Some m
+  pub may : begin_refusal m ps changes ≡ None
+  pub rising : rises_above 0 ps ≡ true
+  pub idle : (p : ℕ) → among p ps ≡ true → Idle w k m p
+
+-- a transaction that may begin at idle elements, at one at least, and whose messages all arrive, once and in their order, is completed at every participant
 abbrev pub CleanRound : World → Type 0
 CleanRound w =
-    (k : ℕ) (m : Master) (q : ℕ) (qs : List ℕ) (changes : ℕ → ℕ) → w.masters k ≡ Some m → begin_refusal m (q ∷ qs) changes ≡ None → rises_above 0 (q ∷ qs) ≡ true → ((p : ℕ) → among p (q ∷ qs) ≡ true → Idle w k m p) → (cs : ℕ → Circumstance) → ((i : ℕ) → Smooth (cs i))
-    → (n : ℕ) × Completes w (arrive cs (length w.sent + 1) n (happens w (Begin k (q ∷ qs) changes))) k m (q ∷ qs) changes n
+    (k : ℕ) (m : Master) (p : ℕ) (ps : List ℕ) (changes : ℕ → ℕ) → Able w k m (p ∷ ps) changes → (cs : ℕ → Circumstance) → ((i : ℕ) → Smooth (cs i))
+    → (n : ℕ) × Completes w (arrive cs (length w.sent + 1) n (happens w (Begin k (p ∷ ps) changes))) k m (p ∷ ps) changes n

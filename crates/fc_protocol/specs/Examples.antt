@@ -8,7 +8,7 @@ use Rattle.fc_protocol.specs.declared.states.TxnState.{TxnState}
 use Rattle.fc_protocol.specs.Codes.{read_only}
 use Rattle.fc_protocol.specs.ElementMachine.{ElementState, Circumstance}
 use Rattle.fc_protocol.specs.Jobs.{Job, find, is_settled}
-use Rattle.fc_protocol.specs.MasterMachine.{Master}
+use Rattle.fc_protocol.specs.MasterMachine.{Master, new_master}
 use Rattle.fc_protocol.specs.Messages.{Message, Sent}
 use Rattle.fc_protocol.specs.Records.{state_of}
 use Rattle.fc_protocol.specs.WorldSteps.{Network, World, Step, Open, Deliver, Start, Stop, Begin, Give_up, first_world, run}
@@ -45,9 +45,13 @@ abbrev pub delivers_from : ℕ → ℕ → List Step
 delivers_from i zero = []
 delivers_from i (suc n) = deliver i ∷ delivers_from (i + 1) n
 
--- the first controller claims both elements and begins a transaction of one change at each
+-- the first controller claims both elements
+abbrev pub claiming : List Step
+claiming = Start 1 1 ∷ Open 1 1 ∷ Open 2 1 ∷ delivers_from 1 12
+
+-- and begins a transaction of one change at each
 abbrev pub opening_steps : List Step
-opening_steps = Start 1 1 ∷ Open 1 1 ∷ Open 2 1 ∷ delivers_from 1 12 ++ Begin 1 (1 ∷ 2 ∷ []) (λ _. 1) ∷ []
+opening_steps = claiming ++ Begin 1 (1 ∷ 2 ∷ []) (λ _. 1) ∷ []
 
 -- the second controller takes over
 abbrev pub takeover : List Step
@@ -120,3 +124,8 @@ after_steps n ss = run ss (first_world n)
 -- the answers of two participants
 abbrev pub answers_of : ℕ → Seen → ℕ → Seen → List (Option Answer)
 answers_of d s e t = Some (record { epoch = d; seen = s }) ∷ Some (record { epoch = e; seen = t }) ∷ []
+
+-- the master that runs, or one that knows nothing
+abbrev pub master_of : Option Master → Master
+master_of None = new_master 0 []
+master_of (Some m) = m

@@ -1,14 +1,16 @@
 //! Runs that compute: the laws of this crate are not empty.
 
 ghost use Rattle.std.specs.Prelude.{◌≡◌, ℕ, true, false, List, [], ◌∷◌, ◌++◌, length, Some, None};
-ghost use Rattle.fc_protocol.specs.Examples.{first_controller, second_controller, pair, lone, clean, completing_failover, aborting_failover, late_give_up, repeated_end, refused_change, the_txn, element_line, job_of, sent_since, after_steps};
+ghost use Rattle.fc_protocol.specs.CleanRound.{Able};
+ghost use Rattle.fc_protocol.specs.Examples.{first_controller, second_controller, pair, lone, claiming, clean, completing_failover, aborting_failover, late_give_up, repeated_end, refused_change, the_txn, element_line, job_of, sent_since, after_steps, master_of};
 ghost use Rattle.fc_protocol.specs.Messages.{Reply, Tells};
 ghost use Rattle.fc_protocol.specs.Trace.{Opened_at, Prepared_at, Claimed_at};
 ghost use Rattle.fc_protocol.specs.declared.states.Decision.TheVariants.{Complete, Abort};
 ghost use Rattle.fc_protocol.specs.declared.states.TxnState.TheVariants.{Prepared, Completed, Aborted};
 
-/// Where every message arrives once, both elements complete after 28 messages.
+/// Once both elements are claimed a transaction may begin at them. Where every message arrives once, both complete after 28 messages.
 pub fn clean_round()
+    ensures able { Able (after_steps pair claiming) 1 (master_of ((after_steps pair claiming).masters 1)) (1 ∷ 2 ∷ []) (λ _. 1) }
     ensures first { element_line ((after_steps pair clean).at 1) ≡ record { epoch = 257; ce = first_controller; sequence = 4; state = Some Completed } }
     ensures second { element_line ((after_steps pair clean).at 2) ≡ record { epoch = 257; ce = first_controller; sequence = 4; state = Some Completed } }
     ensures job { job_of ((after_steps pair clean).masters 1) ≡ Some (record { decision = Some Complete; settled = true }) }
