@@ -4,6 +4,7 @@ pub mod Cut
 pub mod Hearing
 pub mod Holding
 pub mod Judged
+pub mod Looking
 pub mod OpenPeers
 pub mod Reaching
 pub mod Serving

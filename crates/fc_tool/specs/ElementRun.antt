@@ -5,6 +5,7 @@ use Rattle.fc_base.specs.Causes.{Rose}
 use Rattle.fc_base.specs.Content.{AppendsFront}
 use Rattle.fc_hub.specs.Hubs.{Held}
 use Rattle.fc_hub.specs.declared.event.HubEvent.{HubEvent}
+use Rattle.fc_base.specs.declared.faults.Memory.{Memory}
 use Rattle.fc_element.specs.ElementMachine.{report_of}
 use Rattle.fc_tool.specs.declared.element.ElementEnd.{ElementEnd}
 use Rattle.fc_tool.specs.declared.element.ElementEnd.TheVariants.{Done, ReadFault, HubFault, Refused, Turns, TooLong}
@@ -16,20 +17,20 @@ use Rattle.fc_tool.specs.ElementNode.{first_node, node_after}
 use Rattle.fc_tool.specs.Stops.{stop_status}
 
 -- What was seen of an input of which so many bytes are looked at: it is empty, it is not, it is longer, it can't be read.
-abbrev pub LookEnds : ℕ → Result Look Stop → Option (List ℕ) → Option (List ℕ) → Type 0
+abbrev pub LookEnds : ℕ → Result Look Memory → Option (List ℕ) → Option (List ℕ) → Type 0
 LookEnds limit (Ok look.Nothing) before left = Consumes before left [] × IsAtEnd left
 LookEnds limit (Ok look.Something) before left =
     (bytes : List ℕ) × Consumes before left bytes × IsAtEnd left × (0 < length bytes) × (length bytes ≤ limit)
 LookEnds limit (Ok look.TooLong) before left = (bytes : List ℕ) × Consumes before left bytes × (limit < length bytes)
 LookEnds limit (Ok look.ReadFault) before left = (bytes : List ℕ) × Consumes before left bytes × (length bytes ≤ limit)
-LookEnds limit (Err stop) before left = (bytes : List ℕ) × Consumes before left bytes × (length bytes ≤ limit)
+LookEnds limit (Err e) before left = (bytes : List ℕ) × Consumes before left bytes × (length bytes ≤ limit)
 
-abbrev pub LookCount : Result Look Stop → ℕ → ℕ → Type 0
+abbrev pub LookCount : Result Look Memory → ℕ → ℕ → Type 0
 LookCount (Ok look.ReadFault) before now = Rose before now
 LookCount (Ok look.Nothing) before now = now ≡ before
 LookCount (Ok look.Something) before now = now ≡ before
 LookCount (Ok look.TooLong) before now = now ≡ before
-LookCount (Err stop) before now = now ≡ before
+LookCount (Err e) before now = now ≡ before
 
 -- the line where the input is not empty: libraries are not taken yet
 abbrev pub not_built_text : List ℕ

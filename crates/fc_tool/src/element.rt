@@ -7,7 +7,7 @@ ghost use Rattle.fc_tool.specs.ElementRun.{ElementEnds, ElementHub, ElementSourc
 ghost use Rattle.fc_tool.specs.Stops.{FlushedAt, SinkCount};
 
 use crate::acting::NodeStop;
-use crate::input::{LIMIT, Look, look};
+use crate::input::{LIMIT, Look, look_over};
 use crate::node::Node;
 use crate::serve::{Served, serve};
 use crate::stops::{Stop, finish, put};
@@ -74,7 +74,7 @@ fn element_ends<S: Source, K: Sink, H: Hub>(
     ensures hub { ElementHub result (H.faults hub.old) (H.faults hub.new) }
     ensures sink { SinkCount result (K.faults out.old) (K.faults out.new) }
 {
-    match look(alloc, input) {
+    match look_over(alloc, input) {
         Ok(Look::Nothing) => run_element(alloc, fe, ce, turns, out, hub),
         Ok(Look::Something) => match put(out, b"refused library notbuilt\n") {
             Ok(()) => Ok(ElementEnd::Refused),
@@ -82,7 +82,7 @@ fn element_ends<S: Source, K: Sink, H: Hub>(
         },
         Ok(Look::TooLong) => Ok(ElementEnd::TooLong),
         Ok(Look::ReadFault) => Ok(ElementEnd::ReadFault),
-        Err(stop) => Err(stop),
+        Err(_) => Err(Stop::NoMemory),
     }
 }
 

@@ -1,9 +1,10 @@
 // Looks at an input that is to be empty.
 ghost use Rattle.std.specs.Prelude.{◌≡◌, ◌≢◌, ◌≤◌, ◌<◌};
+ghost use Rattle.fc_tool.specs.declared.input.Look.TheVariants.{Nothing, Something};
 ghost use Rattle.fc_tool.specs.ElementRun.{LookCount, LookEnds};
 
-use crate::stops::Stop;
-use fc_base::{Source, Trouble};
+use crate::splitter::Splitter;
+use fc_base::{Memory, Source, Trouble};
 use std::alloc::Global;
 
 /// So many bytes of an input are looked at, and one more shows that there are too many.
@@ -37,32 +38,39 @@ pub fn next_piece(left: usize) -> usize
 }
 
 /// Reads the input to its end, as far as it is looked at.
-pub fn look<S: Source>(alloc: Global, input: &mut S) -> Result<Look, Stop>
+pub fn look_over<S: Source>(alloc: Global, input: &mut S) -> Result<Look, Memory>
     ensures ends { LookEnds LIMIT result (S.left input.old) (S.left input.new) }
     ensures count { LookCount result (S.faults input.old) (S.faults input.new) }
 {
-    let Ok(mut buffer) = vec![in alloc; 0u8; PIECE] else {
-        return Err(Stop::NoMemory);
-    };
+    let mut piece = Splitter::new(alloc);
     let mut count = 0usize;
     'reads: for _ in 0..READS {
         let left = LIMIT - count;
-        let given = match input.read(&mut buffer[..next_piece(left)]) {
+        let given = match piece.feed_from(input, next_piece(left)) {
             Ok(given) => given,
             Err(Trouble::Failed) => return Ok(Look::ReadFault),
-            Err(Trouble::Memory) => return Err(Stop::NoMemory),
+            Err(Trouble::Memory) => return Err(Memory),
         };
         if given == 0 {
-            return Ok(if count == 0 {
-                Look::Nothing
-            } else {
-                Look::Something
-            });
+            return Ok(seen(count));
         }
         if left == 0 {
             return Ok(Look::TooLong);
         }
         count += given;
+        piece.take(piece.rest().len());
     }
     unreachable!()
+}
+
+// What was seen of an input that has so many bytes.
+fn seen(count: usize) -> Look
+    ensures nothing { count ≡ 0 → result ≡ Nothing }
+    ensures something { count ≢ 0 → result ≡ Something }
+{
+    if count == 0 {
+        Look::Nothing
+    } else {
+        Look::Something
+    }
 }
