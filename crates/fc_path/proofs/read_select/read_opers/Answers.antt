@@ -1,0 +1,15 @@
+use Rattle.std.proofs.Common.{◌≡◌, Ok, Some, [], sym, ap, ◌∙◌, arith}
+use Rattle.std.proofs.lemmas.Grind.{common_steps}
+use Rattle.fc_path.specs.Reading.{oper_at, each_in}
+use Rattle.fc_path.proofs.Steps.{loop_goes, loop_end, some_empty}
+use Rattle.fc_path.proofs.read_select.read_opers.Goals as goal
+
+pub items-preserved : goal.items-preserved
+items-preserved c =
+    loop_goes (oper_at c.args.message) c.items.tlvs.items c.items.tlvs.fault c.in-Ok.tlv c.next.new.self c.items.opers c.push.new.self _ c.in_ok-oper-in-Ok.oper c.items.invariant
+    (ap Some (sym c.in-Ok.is) ∙ c.in-Some.ensures.next) c.next.ensures.rest c.in_ok-oper-in-Ok.ensures c.in_ok-push-in-Ok.ensures.ok
+
+pub returns-then-is_empty : goal.returns-then-is_empty
+returns-then-is_empty c =
+    some_empty (oper_at c.args.message) c.args.end c.args.tlvs.items c.args.tlvs.fault
+    (loop_end (oper_at c.args.message) c.items.tlvs.items c.items.tlvs.fault c.items.opers _ c.items.invariant c.in_default.ensures.next ∙ ap Ok (c.is_empty.ensures.0 c.if-is_empty.true))

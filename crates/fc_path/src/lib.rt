@@ -1,0 +1,14 @@
+//! Paths, operations and selects: what the messages of ForCES say of the components of LFBs (RFC 5810, section 7.1).
+#![tactic(auto)]
+
+mod fault;
+mod kinds;
+mod oper;
+mod path;
+mod read_path;
+mod read_select;
+mod stray;
+
+pub use fault::PathFault;
+pub use oper::{Leaf, Oper, OperKind, Select, Spot, Step};
+pub use path::{Body, Key, PathData};

@@ -1,0 +1,145 @@
+// Reading operations and selects, with the first fault in reading order.
+ghost use Rattle.std.specs.Prelude.{◌≡◌, ◌%◌, ◌+◌, ◌<◌, ◌≤◌, ◌^◌, ◌++◌, Ok, length, IfOk};
+ghost use Rattle.fc_path.specs.Stray.{Gives, misplaced as is_misplaced};
+ghost use Rattle.fc_path.specs.Reading.{some_in, path_or, path_at, oper_at, operation_at, select_at};
+
+use crate::kinds::{Operation, holds_selects, operation_for};
+use crate::read_path::{read_only_outcome, read_path};
+use crate::stray::{PATH_DATA, SELECT, is_known_in_select, misplaced};
+use crate::{Oper, OperKind, PathData, PathFault, Select};
+use fc_base::List;
+use fc_wire::{Tlv, Tlvs, WireFault, read_u32};
+use std::alloc::Global;
+
+/// How deep PATH-DATA may nest.
+pub const DEPTH: usize = 16;
+
+// The PATH-DATA of an operation with an end, of which there is at least one.
+fn read_paths(
+    alloc: Global,
+    kind: OperKind,
+    mut tlvs: Tlvs,
+    end: usize,
+) -> Result<List<PathData>, PathFault>
+    ensures { Gives result (some_in (path_or is_misplaced (path_at kind 16)) end tlvs.entry.items tlvs.entry.fault) }
+{
+    let mut paths = List::new(alloc);
+    'items: while let Some(next) = tlvs.next() {
+        match next {
+            Err(fault) => return Err(PathFault::Wire(fault)),
+            Ok(tlv) => {
+                if tlv.kind != PATH_DATA {
+                    return Err(misplaced(&tlv));
+                }
+                let path = read_path(alloc, kind, DEPTH, &tlv)?;
+                paths.push(path)?;
+            }
+        }
+    }
+    if paths.is_empty() {
+        return Err(PathFault::WrongBody { place: end });
+    }
+    Ok(paths)
+}
+
+// A TLV that is an operation.
+fn read_operation(alloc: Global, operation: Operation, tlv: &Tlv) -> Result<Oper, PathFault>
+    ensures { Gives result (operation_at operation tlv.now) }
+{
+    let padded = tlv.padded();
+    let place = tlv.place + 4;
+    let end = place + padded.len();
+    match operation {
+        Operation::Paths(kind) => {
+            let paths = read_paths(alloc, kind, Tlvs::over(padded, place), end)?;
+            Ok(Oper::Paths(kind, paths))
+        }
+        Operation::Commit => {
+            if !tlv.body.is_empty() {
+                return Err(PathFault::WrongBody { place: tlv.place });
+            }
+            Ok(Oper::Commit)
+        }
+        Operation::Trcomp => {
+            if !tlv.body.is_empty() {
+                return Err(PathFault::WrongBody { place: tlv.place });
+            }
+            Ok(Oper::Trcomp)
+        }
+        Operation::CommitResponse => {
+            let code = read_only_outcome(Tlvs::over(padded, place), end)?;
+            Ok(Oper::CommitResponse(code))
+        }
+    }
+}
+
+// A TLV inside an LFBselect.
+fn read_oper(alloc: Global, message: u8, tlv: &Tlv) -> Result<Oper, PathFault>
+    ensures { Gives result (oper_at message tlv.now) }
+{
+    let place = tlv.place;
+    match operation_for(message, tlv.kind) {
+        Some(operation) => read_operation(alloc, operation, tlv),
+        None => {
+            if is_known_in_select(tlv.kind) {
+                Err(PathFault::WrongBody { place })
+            } else {
+                Err(PathFault::UnknownTlv { place })
+            }
+        }
+    }
+}
+
+// The operations of an LFBselect with an end, of which there is at least one.
+fn read_opers(
+    alloc: Global,
+    message: u8,
+    mut tlvs: Tlvs,
+    end: usize,
+) -> Result<List<Oper>, PathFault>
+    ensures { Gives result (some_in (oper_at message) end tlvs.entry.items tlvs.entry.fault) }
+{
+    let mut opers = List::new(alloc);
+    'items: while let Some(next) = tlvs.next() {
+        match next {
+            Err(fault) => return Err(PathFault::Wire(fault)),
+            Ok(tlv) => {
+                let oper = read_oper(alloc, message, &tlv)?;
+                opers.push(oper)?;
+            }
+        }
+    }
+    if opers.is_empty() {
+        return Err(PathFault::WrongBody { place: end });
+    }
+    Ok(opers)
+}
+
+impl Select {
+    /// The select that a TLV of a message of a type is.
+    pub fn read(alloc: Global, tlv: &Tlv, message: u8) -> Result<Select, PathFault>
+        ensures exact { Gives result (select_at message tlv.now) }
+    {
+        if tlv.kind != SELECT || !holds_selects(message) {
+            return Err(misplaced(tlv));
+        }
+        if tlv.body.len() < 8 {
+            return Err(PathFault::Wire(WireFault::TlvShort { place: tlv.place }));
+        }
+        let padded = tlv.padded();
+        let (_, inner) = padded.split_at(8);
+        let class = read_u32(padded, 0);
+        let instance = read_u32(padded, 4);
+        let opers = read_opers(
+            alloc,
+            message,
+            Tlvs::over(inner, tlv.place + 12),
+            tlv.place + 4 + padded.len(),
+        )?;
+        Ok(Select {
+            class,
+            instance,
+            opers,
+        })
+    }
+}

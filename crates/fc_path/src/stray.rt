@@ -1,0 +1,98 @@
+// TLVs that may not stand where they do.
+ghost use Rattle.std.specs.Prelude.{◌≡◌};
+ghost use Rattle.fc_path.specs.Kinds.{is_known as known, in_select};
+ghost use Rattle.fc_path.specs.Stray.{Gives, misplaced as is_misplaced, beside as is_beside, trailing as is_trailing, shut};
+
+use crate::PathFault;
+use fc_wire::{Tlv, Tlvs};
+
+/// The type of an LFBselect.
+pub const SELECT: u16 = 0x1000;
+/// The type of a PATH-DATA.
+pub const PATH_DATA: u16 = 0x0110;
+/// The type of a KEYINFO.
+pub const KEY_INFO: u16 = 0x0111;
+/// The type of a FULLDATA.
+pub const FULL_DATA: u16 = 0x0112;
+/// The type of a SPARSEDATA.
+pub const SPARSE_DATA: u16 = 0x0113;
+/// The type of a RESULT.
+pub const RESULT: u16 = 0x0114;
+
+/// Whether a type is in a table, where no operation may stand.
+#[inline(always)]
+pub fn is_known(kind: u16) -> bool
+    ensures { result ≡ known kind }
+{
+    kind == 0x0001
+        || kind == 0x0010
+        || kind == 0x0011
+        || kind == SELECT
+        || (0x0110 <= kind && kind <= 0x0116)
+}
+
+/// Whether a type is in a table, inside an LFBselect.
+#[inline(always)]
+pub fn is_known_in_select(kind: u16) -> bool
+    ensures { result ≡ in_select kind }
+{
+    (1 <= kind && kind <= 0x000e) || is_known(kind)
+}
+
+/// What is wrong with a TLV that may not stand here.
+pub fn misplaced(tlv: &Tlv) -> PathFault
+    ensures { result ≡ is_misplaced tlv.now }
+{
+    let place = tlv.place;
+    if is_known(tlv.kind) {
+        PathFault::WrongBody { place }
+    } else {
+        PathFault::UnknownTlv { place }
+    }
+}
+
+/// What is wrong with a TLV beside the body of a PATH-DATA.
+pub fn beside(tlv: &Tlv) -> PathFault
+    ensures { result ≡ is_beside tlv.now }
+{
+    let place = tlv.place;
+    if is_known(tlv.kind) {
+        PathFault::TwoBodies { place }
+    } else {
+        PathFault::UnknownTlv { place }
+    }
+}
+
+/// What is wrong with a TLV behind the only one that may stand here.
+pub fn trailing(tlv: &Tlv) -> PathFault
+    ensures { result ≡ is_trailing tlv.now }
+{
+    let place = tlv.place;
+    if is_known(tlv.kind) {
+        PathFault::Trailing { place }
+    } else {
+        PathFault::UnknownTlv { place }
+    }
+}
+
+/// That nothing stands behind the body of a PATH-DATA.
+pub fn no_more_bodies(mut tlvs: Tlvs) -> Result<(), PathFault>
+    ensures { Gives result (shut is_beside tlvs.entry.items tlvs.entry.fault) }
+{
+    match tlvs.next() {
+        None => Ok(()),
+        Some(Err(fault)) => Err(PathFault::Wire(fault)),
+        Some(Ok(tlv)) => Err(beside(&tlv)),
+    }
+}
+
+/// That nothing stands behind the only TLV that may stand here.
+pub fn no_more(mut tlvs: Tlvs) -> Result<(), PathFault>
+    ensures { Gives result (shut is_trailing tlvs.entry.items tlvs.entry.fault) }
+{
+    match tlvs.next() {
+        None => Ok(()),
+        Some(Err(fault)) => Err(PathFault::Wire(fault)),
+        Some(Ok(tlv)) => Err(trailing(&tlv)),
+    }
+}
