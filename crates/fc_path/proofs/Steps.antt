@@ -1,11 +1,13 @@
 -- Reading, one step at a time.
-use Rattle.std.proofs.Common.{◌≡◌, ◌≢◌, ℕ, zero, suc, ◌+◌, ◌-◌, ◌*◌, ◌/◌, ◌<◌, ◌≤◌, ◌^◌, ◌==◌, ◌||◌, List, [], ◌∷◌, ◌++◌, length, drop, Bool, true, false, nat_lt, cond, Option, Some, None, Result, Ok, Err, refl, sym, ap, ◌∙◌, arith, append_assoc, append-nil, subst, ne_eqb}
+use Rattle.std.proofs.Common.{◌≡◌, ◌≢◌, ℕ, zero, suc, ◌+◌, ◌-◌, ◌*◌, ◌/◌, ◌<◌, ◌≤◌, ◌^◌, ◌==◌, ◌||◌, List, [], ◌∷◌, ◌++◌, length, drop, Bool, true, false, nat_lt, cond, not, Option, Some, None, Result, Ok, Err, refl, sym, ap, ◌∙◌, arith, append_assoc, append-nil, subst, ne_eqb}
+use Rattle.std.specs.Bool.{beq}
 use Rattle.fc_wire.specs.Bytes.{u16_at}
 use Rattle.fc_wire.specs.Tiling.{Tiling, tiling, next_of, rest_of}
 use Rattle.fc_wire.specs.Tlvs.{TlvItem, tlvs}
 use Rattle.fc_wire.specs.declared.header.WireFault.{WireFault}
+use Rattle.fc_path.specs.Kinds.{is_known}
 use Rattle.fc_path.specs.Stray.{◌>>=◌, Fails, Gives, beside, shut}
-use Rattle.fc_path.specs.Reading.{each_in, some_in, path_or, body_in, leaf_at, path_at, content_in, numbers, end_of}
+use Rattle.fc_path.specs.Reading.{each_in, some_in, path_or, body_in, key_at, leaf_at, path_at, content_in, numbers, end_of}
 use Rattle.fc_path.specs.declared.fault.PathFault.{PathFault}
 use Rattle.fc_path.specs.declared.fault.PathFault.TheVariants as faults
 use Rattle.fc_path.specs.declared.oper.OperKind.{OperKind}
@@ -166,3 +168,23 @@ or_path stray one t k = ap (λ n. cond (n == 272) (one t) (Err (stray t))) k
 
 pub or_fails : (stray : TlvItem → PathFault) (one : TlvItem → Result PathData PathFault) (t : TlvItem) (e : PathFault) → t.kind ≡ 272 → Fails e (one t) → Fails e (path_or stray one t)
 or_fails stray one t e k f = subst (Fails e) (sym (or_path stray one t k)) f
+
+-- a KEYINFO and a body that is none
+pub keyed_fails : (kind : OperKind) (one : TlvItem → Result PathData PathFault) (path end : ℕ) (keyed : Bool) (items : List TlvItem) (fault : Option WireFault) (t : TlvItem) (rest : Tiling TlvItem) (key : Key) (e : PathFault)
+    → Some (Ok t) ≡ next_of items fault → rest ≡ rest_of items fault → is_known t.kind ≡ true → keyed ≡ true → (t.kind == 273) ≡ true → key_at t ≡ Ok key → Fails e (body_in kind one end rest.items rest.fault)
+    → Fails e (content_in kind one path keyed end items fault)
+keyed_fails kind one path end keyed items fault t rest key e n r known k is found f =
+    let p = took items fault t rest n r in
+    let yes = (key_at t >>= λ key. body_in kind one end rest.items rest.fault >>= λ b. Ok (Some key, b)) in
+    let same : content_in kind one path keyed end items fault ≡ (body_in kind one end rest.items rest.fault >>= λ b. Ok (Some key, b)) =
+    ap (λ l. content_in kind one path keyed end l fault) p.0 ∙ ap (λ l. content_in kind one path keyed end (t ∷ rest.items) l) p.1
+    ∙ ap (λ q. content_in kind one path q end (t ∷ rest.items) rest.fault) k
+    ∙ ap (λ q. cond (not q) (Err (faults.UnknownTlv t.place)) (cond (t.kind == 273) yes (Err (faults.KeyFlag (path + 4))))) known
+    ∙ ap (λ q. cond q yes (Err (faults.KeyFlag (path + 4)))) is
+    ∙ ap (λ q. q >>= λ key. body_in kind one end rest.items rest.fault >>= λ b. Ok (Some key, b)) found in
+    subst (Fails e) (sym same) (fails_bind e _ _ f)
+
+pub same_beq : (a b : Bool) → a ≡ true → not (beq a b) ≡ false → b ≡ true
+same_beq true true p q = refl
+same_beq true false p q = cc
+same_beq false b p q = cc

@@ -75,9 +75,9 @@ key_at tlv =
 -- the body of a PATH-DATA that holds no others
 abbrev pub leaf_at : OperKind → TlvItem → Result Body PathFault
 leaf_at kind tlv =
-    if takes_full kind && tlv.kind == 274 then Ok (body.Full tlv.body)
-    else (if takes_sparse kind && tlv.kind == 275 then sparse_at tlv >>= (λ ilvs. Ok (body.Sparse ilvs))
-    else (if takes_outcome kind && tlv.kind == 276 then outcome_at tlv >>= (λ code. Ok (body.Outcome code))
+    if tlv.kind == 274 && takes_full kind then Ok (body.Full tlv.body)
+    else (if tlv.kind == 275 && takes_sparse kind then sparse_at tlv >>= (λ ilvs. Ok (body.Sparse ilvs))
+    else (if tlv.kind == 276 && takes_outcome kind then outcome_at tlv >>= (λ code. Ok (body.Outcome code))
     else Err (misplaced tlv)))
 
 -- a PATH-DATA, where no other TLV may stand

@@ -116,13 +116,13 @@ fn read_key(alloc: Global, tlv: &Tlv) -> Result<Key, PathFault>
 fn read_leaf(alloc: Global, kind: OperKind, tlv: &Tlv) -> Result<Body, PathFault>
     ensures { Gives result (leaf_at kind tlv.now) }
 {
-    if kind.takes_full() && tlv.kind == FULL_DATA {
+    if tlv.kind == FULL_DATA && kind.takes_full() {
         return Ok(Body::Full(Octets::from_slice(alloc, tlv.body)?));
     }
-    if kind.takes_sparse() && tlv.kind == SPARSE_DATA {
+    if tlv.kind == SPARSE_DATA && kind.takes_sparse() {
         return Ok(Body::Sparse(read_sparse(alloc, tlv)?));
     }
-    if kind.takes_outcome() && tlv.kind == RESULT {
+    if tlv.kind == RESULT && kind.takes_outcome() {
         return Ok(Body::Outcome(read_outcome(tlv)?));
     }
     Err(misplaced(tlv))

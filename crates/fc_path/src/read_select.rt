@@ -1,6 +1,9 @@
 // Reading operations and selects, with the first fault in reading order.
 ghost use Rattle.std.specs.Prelude.{◌≡◌, ◌%◌, ◌+◌, ◌<◌, ◌≤◌, ◌^◌, ◌++◌, Ok, length, IfOk};
 ghost use Rattle.fc_path.specs.Stray.{Gives, misplaced as is_misplaced};
+ghost use Rattle.fc_wire.specs.Bytes.{AreBytes};
+ghost use Rattle.fc_path.specs.Grammar.{IsSelectOf};
+ghost use Rattle.fc_path.specs.declared.oper.Select.{Select as Selected};
 ghost use Rattle.fc_path.specs.Reading.{some_in, path_or, path_at, oper_at, operation_at, select_at};
 
 use crate::kinds::{Operation, holds_selects, operation_for};
@@ -115,31 +118,48 @@ fn read_opers(
     Ok(opers)
 }
 
+// An LFBselect, whose padded value is at hand.
+fn read_select(alloc: Global, message: u8, tlv: &Tlv, padded: &[u8]) -> Result<Select, PathFault>
+    requires padded { padded.now ≡ tlv.now.padded }
+    requires whole { length padded.now % 4 ≡ 0 }
+    requires cut { length tlv.now.body ≤ length padded.now }
+    requires within { tlv.now.place + 4 + length padded.now < 2 ^ 64 }
+    ensures { Gives result (select_at message tlv.now) }
+{
+    if tlv.kind != SELECT || !holds_selects(message) {
+        return Err(misplaced(tlv));
+    }
+    if tlv.body.len() < 8 {
+        return Err(PathFault::Wire(WireFault::TlvShort { place: tlv.place }));
+    }
+    let (_, inner) = padded.split_at(8);
+    let class = read_u32(padded, 0);
+    let instance = read_u32(padded, 4);
+    let place = tlv.place;
+    let end = place + 4 + padded.len();
+    let opers = read_opers(alloc, message, Tlvs::over(inner, place + 12), end)?;
+    Ok(Select {
+        class,
+        instance,
+        opers,
+    })
+}
+
+// That the items of a slice of bytes are bytes, for proofs.
+#[inline(always)]
+fn are_bytes(bytes: &[u8])
+    ensures { AreBytes bytes.now }
+{}
+
 impl Select {
-    /// The select that a TLV of a message of a type is.
+    /// The select that a TLV of a message of a type is, or the first rule in reading order that the TLV breaks.
     pub fn read(alloc: Global, tlv: &Tlv, message: u8) -> Result<Select, PathFault>
+        ensures found { IfOk result (λ s. IsSelectOf message s tlv.now) }
+        ensures only { (s : Selected) → IsSelectOf message s tlv.now → Gives result (Ok s) }
         ensures exact { Gives result (select_at message tlv.now) }
     {
-        if tlv.kind != SELECT || !holds_selects(message) {
-            return Err(misplaced(tlv));
-        }
-        if tlv.body.len() < 8 {
-            return Err(PathFault::Wire(WireFault::TlvShort { place: tlv.place }));
-        }
         let padded = tlv.padded();
-        let (_, inner) = padded.split_at(8);
-        let class = read_u32(padded, 0);
-        let instance = read_u32(padded, 4);
-        let opers = read_opers(
-            alloc,
-            message,
-            Tlvs::over(inner, tlv.place + 12),
-            tlv.place + 4 + padded.len(),
-        )?;
-        Ok(Select {
-            class,
-            instance,
-            opers,
-        })
+        are_bytes(padded);
+        read_select(alloc, message, tlv, padded)
     }
 }

@@ -1,9 +1,12 @@
-use Rattle.std.proofs.Common.{◌≡◌, ◌≢◌, ℕ, ◌+◌, ◌-◌, ◌*◌, ◌/◌, ◌^◌, ◌==◌, ◌≤◌, length, drop, Some, sym, ap, ◌∙◌, arith, subst}
+use Rattle.std.proofs.Common.{◌≡◌, ◌≢◌, ℕ, ◌+◌, ◌-◌, ◌*◌, ◌/◌, ◌^◌, ◌==◌, ◌≤◌, length, drop, Some, true, sym, ap, ◌∙◌, arith, subst}
 use Rattle.std.proofs.lemmas.Result.{err_from_is_err_and}
 use Rattle.fc_wire.specs.Bytes.{u16_at}
-use Rattle.fc_wire.specs.Tlvs.{TlvItem}
-use Rattle.fc_path.specs.Reading.{path_at, end_of}
-use Rattle.fc_path.proofs.Steps.{body_leaf_fails, body_shut_fails, body_shut, path_at_ok, path_at_fails}
+use Rattle.fc_wire.specs.Tiling.{Tiling}
+use Rattle.fc_wire.specs.Tlvs.{TlvItem, tlvs}
+use Rattle.fc_path.specs.Kinds.{is_known}
+use Rattle.fc_path.specs.Stray.{Fails}
+use Rattle.fc_path.specs.Reading.{path_at, content_in}
+use Rattle.fc_path.proofs.Steps.{body_leaf_fails, body_shut_fails, body_shut, path_at_ok, path_at_fails, keyed_fails, same_beq}
 use Rattle.fc_path.proofs.read_path.+read.Goals as goal
 
 pub read_body-returns-in_err-body-in-Some-Ok : goal.read_body-returns-in_err-body-in-Some-Ok
@@ -47,3 +50,13 @@ read_path-returns t c =
     path_at_ok c.args.kind c.args.depth (c.args.depth - 1) c.from-count.result c.tlv.inside.place _ _ _ c.args.tlv.now c.split_at.result.1.now c.split_at-2.result.1.now c.in_ok-ids.ids c.in_ok-key.key c.in_ok-key.body (omega arith)
     (omega (arith, size)) count place keyed (omega (arith, size, place, c.split_at.ensures.back_len)) (omega (arith, place)) (c.split_at.ensures.back ∙ ap (drop (4 + 4 * c.from-count.result)) all)
     (c.split_at-2.ensures.back ∙ ap (drop 4) all) c.in_ok-key.ensures c.in_ok-ids.ensures
+
+pub read_content-returns-in_err-body-in-Some-Ok : goal.read_content-returns-in_err-body-in-Some-Ok
+read_content-returns-in_err-body-in-Some-Ok t c =
+    let p = err_from_is_err_and c.from_residual-in_err-body-in-Some-Ok.result c.from_residual-in_err-body-in-Some-Ok.ensures.1 in
+    let view : tlvs c.args.place c.args.inner.now ≡ c.over-tlvs.result = sym c.over-tlvs.ensures.exact in
+    let known : is_known c.in-Some-Ok.tlv.kind ≡ true = ap (λ (t : TlvItem). is_known t.kind) (sym c.tlv.view_is) ∙ sym c.is_known.ensures ∙ c.if-not-is_known.false in
+    let is : (c.in-Some-Ok.tlv.kind == 273) ≡ true = ap (λ (t : TlvItem). t.kind == 273) (sym c.tlv.view_is) ∙ same_beq _ _ c.if-keyed-2.true c.if-keyed-tlv.false in
+    rw (p.1, p.2) (subst (λ (t : Tiling TlvItem). Fails c.in_err-body-in-Some-Ok.field-0.0 (content_in c.args.kind (path_at c.args.kind c.args.depth) c.args.path c.args.keyed (c.args.place + length c.args.inner.now) t.items t.fault)) (sym view)
+    (keyed_fails c.args.kind (path_at c.args.kind c.args.depth) c.args.path (c.args.place + length c.args.inner.now) c.args.keyed c.over-tlvs.result.items c.over-tlvs.result.fault c.in-Some-Ok.tlv c.next.new.self c.in_ok-key-in-Some-Ok.key c.in_err-body-in-Some-Ok.field-0.0
+    (ap Some (sym c.in-Some-Ok.field-0-is) ∙ c.in-Some-Ok.ensures.next) c.next.ensures.rest known c.if-keyed-2.true is c.in_ok-key-in-Some-Ok.ensures c.in_err-body-in-Some-Ok.ensures))
