@@ -232,8 +232,7 @@ empty_read o place = refl
 
 pub oper_tiled : (message : ℕ) (o : Oper) (place : ℕ) (bytes : List ℕ) → IsOper message o bytes → Tile (oper_at message) o place bytes
 oper_tiled message (oper.Paths kind paths) place bytes h =
-    let t = item h.0 place h.1 h.2 in
-    (
+    let t = item h.0 place h.1 h.2 in (
       h.0,
       h.1,
       h.2,

@@ -114,3 +114,17 @@ takes_outcome kinds.Del = false
 takes_outcome kinds.Get = false
 takes_outcome kinds.GetProp = false
 takes_outcome kinds.Report = false
+
+-- the type of the TLV of an operation that holds PATH-DATA
+abbrev pub number_of : OperKind → ℕ
+number_of kinds.Set = 1
+number_of kinds.SetProp = 2
+number_of kinds.SetResponse = 3
+number_of kinds.SetPropResponse = 4
+number_of kinds.Del = 5
+number_of kinds.DelResponse = 6
+number_of kinds.Get = 7
+number_of kinds.GetProp = 8
+number_of kinds.GetResponse = 9
+number_of kinds.GetPropResponse = 10
+number_of kinds.Report = 11

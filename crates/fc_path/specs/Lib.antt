@@ -1,3 +1,4 @@
+pub mod Canon
 pub mod Grammar
 pub mod Kinds
 pub mod Reading

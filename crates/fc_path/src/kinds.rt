@@ -1,6 +1,6 @@
 // The types of operations, and where each may stand.
 ghost use Rattle.std.specs.Prelude.{◌≡◌};
-ghost use Rattle.fc_path.specs.Kinds.{operation_of, holds_selects as holds, takes_nothing as nothing, takes_full as full, takes_sparse as sparse, takes_outcome as outcome};
+ghost use Rattle.fc_path.specs.Kinds.{operation_of, number_of, holds_selects as holds, takes_nothing as nothing, takes_full as full, takes_sparse as sparse, takes_outcome as outcome};
 
 use crate::OperKind;
 
@@ -68,6 +68,25 @@ pub fn holds_selects(message: u8) -> bool
 }
 
 impl OperKind {
+    /// The type of the operation's TLV.
+    pub fn number(self) -> u16
+        ensures { result ≡ number_of self }
+    {
+        match self {
+            OperKind::Set => 1,
+            OperKind::SetProp => 2,
+            OperKind::SetResponse => 3,
+            OperKind::SetPropResponse => 4,
+            OperKind::Del => 5,
+            OperKind::DelResponse => 6,
+            OperKind::Get => 7,
+            OperKind::GetProp => 8,
+            OperKind::GetResponse => 9,
+            OperKind::GetPropResponse => 10,
+            OperKind::Report => 11,
+        }
+    }
+
     /// Whether the leaves of the operation have no body.
     pub fn takes_nothing(self) -> bool
         ensures { result ≡ nothing self }

@@ -8,6 +8,7 @@ mod path;
 mod read_path;
 mod read_select;
 mod stray;
+mod write;
 
 pub use fault::PathFault;
 pub use oper::{Leaf, Oper, OperKind, Select, Spot, Step};
