@@ -1,5 +1,6 @@
 pub mod Canon
 pub mod Grammar
 pub mod Kinds
+pub mod Proper
 pub mod Reading
 pub mod Stray

@@ -3,6 +3,7 @@
 
 mod fault;
 mod kinds;
+mod laws;
 mod oper;
 mod path;
 mod read_path;
@@ -11,5 +12,6 @@ mod stray;
 mod write;
 
 pub use fault::PathFault;
+pub use laws::{reading_is_the_grammar, selects_are_unique, written_selects_are_read};
 pub use oper::{Leaf, Oper, OperKind, Select, Spot, Step};
 pub use path::{Body, Key, PathData};

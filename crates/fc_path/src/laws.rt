@@ -1,0 +1,29 @@
+// Laws of selects and their spellings.
+ghost use Rattle.std.specs.Prelude.{◌≡◌, ◌+◌, ◌++◌, ◌%◌, ◌<◌, ◌≤◌, List, ℕ, length, Ok, Err, true};
+ghost use Rattle.fc_wire.specs.Bytes.{AreBytes};
+ghost use Rattle.fc_wire.specs.Tiling.{in_front};
+ghost use Rattle.fc_wire.specs.Tlvs.{TlvItem, Lent, tlvs};
+ghost use Rattle.fc_path.specs.Canon.{select_written};
+ghost use Rattle.fc_path.specs.Grammar.{IsSelect, IsSelectOf};
+ghost use Rattle.fc_path.specs.Proper.{ProperSelect};
+ghost use Rattle.fc_path.specs.Reading.{select_at};
+ghost use Rattle.fc_path.specs.declared.oper.Select.{Select};
+
+/// A TLV is at most one select, and the same bytes are at most one.
+pub fn selects_are_unique()
+    ensures tlv { (message : ℕ) (tlv : TlvItem) (s r : Select) → Lent tlv → IsSelectOf message s tlv → IsSelectOf message r tlv → s ≡ r }
+    ensures bytes { (message : ℕ) (bytes : List ℕ) (s r : Select) → IsSelect message s bytes → IsSelect message r bytes → s ≡ r }
+{}
+
+/// A TLV is a select exactly where reading gives that select, and so it is one or has exactly one fault.
+pub fn reading_is_the_grammar()
+    ensures { (message : ℕ) (tlv : TlvItem) (s : Select) → Lent tlv → AreBytes tlv.padded →
+        (IsSelectOf message s tlv → select_at message tlv ≡ Ok s) × (select_at message tlv ≡ Ok s → IsSelectOf message s tlv) }
+{}
+
+/// What is written of a proper select is one of its spellings, and is read again as itself, also inside other bytes.
+pub fn written_selects_are_read()
+    ensures spelled { (message : ℕ) (s : Select) → ProperSelect message s → (select_written s).fits ≡ true → IsSelect message s (select_written s).text }
+    ensures again { (message place : ℕ) (s : Select) (bytes more : List ℕ) → IsSelect message s bytes →
+        (tlv : TlvItem) × (tlvs place (bytes ++ more) ≡ in_front tlv (tlvs (place + length bytes) more)) × (tlv.place ≡ place) × (select_at message tlv ≡ Ok s) }
+{}
