@@ -133,9 +133,13 @@ module _ (kind : OperKind) (V : PathData → List ℕ → Type 0) (P : PathData 
   layer_in (Body-F.Sparse ilvs) s f =
       let inner = joined (map ilv_written ilvs) in
       let same : body_written (roll-Body (Body-F.Sparse ilvs)) ≡ wrapped 275 inner = ap body_written (v.rolls-Sparse ilvs) ∙ sparse_is ilvs in
-      let fits : (nat_lt (length inner.text) 65532 && inner.fits) ≡ true = sym (ap (λ w. w.fits) same) ∙ f in
-      (s, inner.text, inner.text, subst (IsTlv 275 inner.text inner.text) (sym (ap (λ w. w.text) same)) (tlv_whole 275 inner.text (short _ _ fits) (joined_whole ilv_written ilv_whole ilvs)),
-      each_in ilv_written (λ x. Unit {0}) IsOwnIlv ilv_in ilvs (all_any ilvs) (both_second (nat_lt (length inner.text) 65532) _ fits))
+      let fits : (nat_lt (length inner.text) 65532 && inner.fits) ≡ true = sym (ap (λ w. w.fits) same) ∙ f in (
+        s,
+        inner.text,
+        inner.text,
+        subst (IsTlv 275 inner.text inner.text) (sym (ap (λ w. w.text) same)) (tlv_whole 275 inner.text (short _ _ fits) (joined_whole ilv_written ilv_whole ilvs)),
+        each_in ilv_written (λ x. Unit {0}) IsOwnIlv ilv_in ilvs (all_any ilvs) (both_second (nat_lt (length inner.text) 65532) _ fits),
+      )
   layer_in (Body-F.Outcome code) s f =
       let same : body_written (roll-Body (Body-F.Outcome code)) ≡ result_written code = ap body_written (v.rolls-Outcome code) ∙ outcome_is code in
       (s, subst (IsResult code) (sym (ap (λ w. w.text) same)) (result_in code))
@@ -169,9 +173,15 @@ path_in kind depth p s f = path_in_by kind (IsValueIn kind depth) (ProperPath ki
 
 oper_in : (message : ℕ) (o : Oper) → ProperOper message o → (oper_written o).fits ≡ true → IsOper message o (oper_written o).text
 oper_in message (oper.Paths kind paths) s f =
-    let inner = joined (map path_written paths) in
-    (number_of kind, inner.text, inner.text, s.0, tlv_whole (number_of kind) inner.text (short _ _ f) (joined_whole path_written path_whole paths), s.1,
-    each_in path_written (ProperPath kind 16) (IsPath kind 16) (path_in kind 16) paths s.2 (both_second (nat_lt (length inner.text) 65532) _ f))
+    let inner = joined (map path_written paths) in (
+      number_of kind,
+      inner.text,
+      inner.text,
+      s.0,
+      tlv_whole (number_of kind) inner.text (short _ _ f) (joined_whole path_written path_whole paths),
+      s.1,
+      each_in path_written (ProperPath kind 16) (IsPath kind 16) (path_in kind 16) paths s.2 (both_second (nat_lt (length inner.text) 65532) _ f),
+    )
 oper_in message oper.Commit s f = (12, s, tlv_whole 12 [] (omega arith) refl)
 oper_in message oper.Trcomp s f = (14, s, tlv_whole 14 [] (omega arith) refl)
 oper_in message (oper.CommitResponse code) s f =

@@ -9,6 +9,8 @@ mod path;
 mod read_path;
 mod read_select;
 mod stray;
+#[cfg(test)]
+mod tests;
 mod write;
 
 pub use fault::PathFault;

@@ -1,0 +1,281 @@
+// Selects and faults whose bytes and places stand in the specification of the format.
+use crate::{PathFault, Select};
+use fc_wire::{TlvWriter, Tlvs, WireFault};
+use std::alloc::{AllocError, Global};
+use std::test::Fail;
+
+// The bytes of hexadecimal digits in upper case; blanks part them.
+fn bytes_of(alloc: Global, digits: &str) -> Result<Vec<u8>, AllocError> {
+    let mut bytes = Vec::new(alloc);
+    let mut high = None;
+    for c in digits.bytes() {
+        let digit = match c {
+            b'0'..=b'9' => c - b'0',
+            b'A'..=b'F' => c - b'A' + 10,
+            _ => continue,
+        };
+        match high {
+            None => high = Some(digit),
+            Some(first) => {
+                bytes.push((first % 16) * 16 + digit % 16)?;
+                high = None;
+            }
+        }
+    }
+    Ok(bytes)
+}
+
+// The select of the first TLV, which stands at 24 in a message of a type.
+fn read(alloc: Global, message: u8, bytes: &[u8]) -> Result<Select, PathFault> {
+    if bytes.len() % 4 != 0 || bytes.len() > 1000 {
+        return Err(PathFault::Memory);
+    }
+    let mut tlvs = Tlvs::over(bytes, 24);
+    match tlvs.next() {
+        None => Err(PathFault::Memory),
+        Some(Err(fault)) => Err(PathFault::Wire(fault)),
+        Some(Ok(tlv)) => Select::read(alloc, &tlv, message),
+    }
+}
+
+#[test]
+fn selects_are_read_and_written(rt: HostRuntime) -> Result<(), Fail> {
+    let alloc = rt.alloc();
+    let cases: [(u8, &str); 15] = [
+        (
+            3,
+            "10000024 0001F001 00000001 00010018 01100014 00000001 00000001 01120008 00000101",
+        ),
+        (
+            0x13,
+            "10000024 0001F001 00000001 00030018 01100014 00000001 00000001 01140008 00000000",
+        ),
+        (
+            3,
+            "1000002C 0001F001 00000001 0001001C 01100018 00000001 00000005 0112000C 00000101 00000001 000C0004",
+        ),
+        (
+            0x13,
+            "10000030 0001F001 00000001 00030018 01100014 00000001 00000005 01140008 00000000 000D000C 01140008 00000000",
+        ),
+        (3, "10000010 0001F001 00000001 000E0004"),
+        (
+            4,
+            "1000001C 00000001 00000001 00070010 0110000C 00000001 00000007",
+        ),
+        (
+            0x14,
+            "10000024 00000001 00000001 00090018 01100014 00000001 00000007 01120005 02000000",
+        ),
+        (
+            3,
+            "1000002C 00000001 00000001 00020020 0110001C 00000001 00000007 01130010 00000002 0000000C 00000001",
+        ),
+        (
+            3,
+            "1000002C 00001001 00000001 00050020 0110001C 80000001 00000004 01110010 00000001 01120008 65746830",
+        ),
+        (
+            4,
+            "10000038 00001001 00000001 0008002C 01100028 00000001 00000001 0110000C 00000001 00000002 01100010 00000002 00000003 00000004",
+        ),
+        (
+            5,
+            "10000028 00001001 00000001 000B001C 01100018 00000002 0000003C 00000001 01120008 00000065",
+        ),
+        (
+            1,
+            "10000028 00001001 00000001 000B001C 01100018 00000002 0000003C 00000001 01120008 00000065",
+        ),
+        (
+            0x13,
+            "10000024 00001001 00000001 00040018 01100014 00000001 00000001 01140008 15000000",
+        ),
+        (
+            0x13,
+            "10000024 00001001 00000001 00060018 01100014 00000001 00000001 01140008 10000000",
+        ),
+        (
+            0x14,
+            "10000038 00001001 00000001 000A002C 01100028 00000001 00000001 0113001C 00000001 00000009 FF000000 00000002 0000000B AABBCC00",
+        ),
+    ];
+    for (message, digits) in cases {
+        let bytes = bytes_of(alloc, digits)?;
+        match read(alloc, message, &bytes) {
+            Ok(select) => {
+                let mut writer = TlvWriter::new(alloc);
+                assert!(rt; select.write(&mut writer).is_ok());
+                assert_eq!(rt; writer.finish().as_slice(), bytes.as_slice(), "{digits}");
+            }
+            Err(_) => assert!(rt; false, "{digits}"),
+        }
+    }
+    Ok(())
+}
+
+#[test]
+fn free_bits_and_padding_are_read(rt: HostRuntime) -> Result<(), Fail> {
+    let alloc = rt.alloc();
+    let cases: [(u8, &str, &str); 3] = [
+        (
+            0x14,
+            "10000024 00000001 00000001 00090018 01100014 00000001 00000007 01120005 02000000",
+            "10000021 00000001 00000001 00090015 01100011 00000001 00000007 01120005 02FFFFFF",
+        ),
+        (
+            4,
+            "10000018 00000001 00000001 0007000C 01100008 00000000",
+            "10000018 00000001 00000001 0007000C 01100006 7FFF0000",
+        ),
+        (
+            0x13,
+            "10000024 00001001 00000001 00060018 01100014 00000001 00000001 01140008 10000000",
+            "10000024 00001001 00000001 00060018 01100014 00000001 00000001 01140008 10ABCDEF",
+        ),
+    ];
+    for (message, one, other) in cases {
+        let first = read(alloc, message, &bytes_of(alloc, one)?);
+        let second = read(alloc, message, &bytes_of(alloc, other)?);
+        assert!(rt; first.is_ok(), "{one}");
+        assert!(rt; first == second, "{other}");
+    }
+    Ok(())
+}
+
+#[test]
+fn faults_have_their_places(rt: HostRuntime) -> Result<(), Fail> {
+    let alloc = rt.alloc();
+    let cases: [(u8, &str, PathFault); 20] = [
+        (
+            4,
+            "1000000B 00000001 00000000",
+            PathFault::Wire(WireFault::TlvShort { place: 24 }),
+        ),
+        (
+            4,
+            "1000000C 00000001 00000001",
+            PathFault::WrongBody { place: 36 },
+        ),
+        (
+            4,
+            "10000010 00000001 00000001 00200004",
+            PathFault::UnknownTlv { place: 36 },
+        ),
+        (
+            4,
+            "10000010 00000001 00000001 00010004",
+            PathFault::WrongBody { place: 36 },
+        ),
+        (
+            4,
+            "10000010 00000001 00000001 00070004",
+            PathFault::WrongBody { place: 40 },
+        ),
+        (
+            3,
+            "10000014 00000001 00000001 000C0008 00000000",
+            PathFault::WrongBody { place: 36 },
+        ),
+        (
+            4,
+            "10000018 00000001 00000001 0007000C 01100008 00000001",
+            PathFault::CountPast { place: 40 },
+        ),
+        (
+            4,
+            "1000001C 00000001 00000001 00070010 0110000C 80000001 00000007",
+            PathFault::KeyFlag { place: 44 },
+        ),
+        (
+            4,
+            "10000020 00000001 00000001 00070014 01100010 00000001 00000007 01110004",
+            PathFault::KeyFlag { place: 44 },
+        ),
+        (
+            4,
+            "10000024 00000001 00000001 00070018 01100014 80000001 00000007 01110006 00000000",
+            PathFault::Wire(WireFault::TlvShort { place: 52 }),
+        ),
+        (
+            4,
+            "10000024 00000001 00000001 00070018 01100014 80000001 00000007 01110008 00000001",
+            PathFault::WrongBody { place: 60 },
+        ),
+        (
+            3,
+            "10000028 00000001 00000001 0001001C 01100018 00000001 00000007 01120004 01100008 00000000",
+            PathFault::TwoBodies { place: 56 },
+        ),
+        (
+            4,
+            "10000020 00000001 00000001 00070014 01100010 00000001 00000007 01120004",
+            PathFault::WrongBody { place: 52 },
+        ),
+        (
+            3,
+            "1000001C 00000001 00000001 00010010 0110000C 00000001 00000007",
+            PathFault::WrongBody { place: 52 },
+        ),
+        (
+            0x13,
+            "10000024 00000001 00000001 000D0018 01140008 00000000 01140008 00000000 00000000",
+            PathFault::Trailing { place: 48 },
+        ),
+        (
+            0x13,
+            "10000024 00001001 00000001 00030018 01100014 00000001 00000001 01140005 00000000",
+            PathFault::WrongBody { place: 52 },
+        ),
+        (
+            3,
+            "10000024 00000001 00000001 00010018 01100014 00000001 00000007 01130008 00000001",
+            PathFault::Wire(WireFault::TlvShort { place: 56 }),
+        ),
+        (
+            4,
+            "10000020 00000001 00000001 00070014 01100010 00000001 00000007 01130003",
+            PathFault::Wire(WireFault::TlvShort { place: 52 }),
+        ),
+        (
+            4,
+            "10010010 00000001 00000001 00070004",
+            PathFault::UnknownTlv { place: 24 },
+        ),
+        (
+            0x0f,
+            "10000010 00000001 00000001 00070004",
+            PathFault::WrongBody { place: 24 },
+        ),
+    ];
+    for (message, digits, want) in cases {
+        match read(alloc, message, &bytes_of(alloc, digits)?) {
+            Ok(_) => assert!(rt; false, "{digits}"),
+            Err(fault) => assert!(rt; fault == want, "{digits}"),
+        }
+    }
+    Ok(())
+}
+
+// A query whose path data nest so deep, each without IDs.
+fn nested(alloc: Global, depth: u8) -> Result<Vec<u8>, AllocError> {
+    let size = depth % 20 * 8;
+    let mut bytes = bytes_of(alloc, "10000000 00000001 00000001 00070000")?;
+    for (at, len) in [(3, size + 16), (15, size + 4)] {
+        if let Some(byte) = bytes.get_mut(at) {
+            *byte = len;
+        }
+    }
+    for level in 0..depth % 20 {
+        bytes.extend_from_slice(&[1, 0x10, 0, (depth % 20 - level) * 8, 0, 0, 0, 0])?;
+    }
+    Ok(bytes)
+}
+
+#[test]
+fn path_data_nest_sixteen_deep(rt: HostRuntime) -> Result<(), Fail> {
+    let alloc = rt.alloc();
+    assert!(rt; read(alloc, 4, &nested(alloc, 16)?).is_ok());
+    assert!(rt; read(alloc, 4, &nested(alloc, 17)?) == Err(PathFault::Deep { place: 168 }));
+    Ok(())
+}
