@@ -1,5 +1,5 @@
 -- What writing appends, step by step.
-use Rattle.std.proofs.Common.{◌≡◌, ◌↔◌, ℕ, zero, suc, ◌+◌, ◌-◌, ◌*◌, ◌<◌, ◌≤◌, ◌^◌, ◌&&◌, Bool, true, false, nat_lt, List, [], ◌∷◌, ◌++◌, length, take, map, get_or, Option, Some, None, Result, Ok, Err, OnOk, refl, sym, ap, ◌∙◌, subst, arith, rules, inl, inr, length-append, append_assoc, append-nil}
+use Rattle.std.proofs.Common.{◌≡◌, ◌↔◌, ℕ, zero, suc, ◌+◌, ◌-◌, ◌<◌, ◌≤◌, ◌&&◌, Bool, true, false, nat_lt, List, [], ◌∷◌, ◌++◌, length, take, map, get_or, Some, Result, Ok, Err, OnOk, refl, sym, ap, ◌∙◌, subst, arith, rules, inl, inr, length-append, append_assoc, append-nil}
 use Rattle.std.proofs.lemmas.List.{take_more, map-append}
 use Rattle.std.proofs.lemmas.Bool.{cases_lt}
 use Rattle.std.specs.Result.{IsErrOf}
@@ -8,11 +8,11 @@ use Rattle.fc_base.specs.declared.faults.WriteFault.{WriteFault}
 use Rattle.fc_base.specs.declared.faults.WriteFault.TheVariants as faults
 use Rattle.fc_wire.specs.Bytes.{u16_bytes, u32_bytes}
 use Rattle.fc_wire.specs.Writing.{Writing, writing, head_bytes, tlv_bytes, ilv_bytes, padding}
-use Rattle.fc_path.specs.Canon.{Written, Pushed, plain, after, joined, wrapped, key_written, key_flags, body_written, path_written, path_step, oper_written, select_written}
+use Rattle.fc_path.specs.Canon.{Written, Pushed, plain, joined, wrapped, key_written, key_flags, body_written, path_written, path_step, oper_written, select_written}
 use Rattle.fc_path.specs.declared.oper.Select.{Select}
 use Rattle.fc_path.specs.declared.path.Key.{Key}
 use Rattle.fc_path.specs.declared.path.PathData.{PathData}
-use Rattle.fc_path.specs.declared.path.Body.{Body, the_lemmas}
+use Rattle.fc_path.specs.declared.path.Body.{the_lemmas}
 use Rattle.fc_path.specs.declared.path.Body.TheVariants as v
 
 fits_yes : (n : ℕ) (f : Bool) → n < 65532 → f ≡ true → (nat_lt n 65532 && f) ≡ true

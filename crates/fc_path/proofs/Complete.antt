@@ -1,28 +1,26 @@
 -- What is spelled so is read.
-use Rattle.std.proofs.Common.{◌≡◌, ◌≢◌, ℕ, zero, suc, ◌+◌, ◌-◌, ◌*◌, ◌/◌, ◌%◌, ◌<◌, ◌≤◌, ◌^◌, List, [], ◌∷◌, ◌++◌, length, take, drop, map, Bool, true, false, ◌==◌, ◌&&◌, ◌||◌, not, cond, nat_lt, Option, Some, None, Result, Ok, Err, refl, sym, ap, ◌∙◌, subst, arith, length-append, append_assoc, append-nil}
+use Rattle.std.proofs.Common.{◌≡◌, ℕ, zero, suc, ◌+◌, ◌*◌, ◌/◌, ◌%◌, ◌<◌, ◌≤◌, ◌^◌, List, [], ◌∷◌, ◌++◌, length, drop, map, Bool, true, false, ◌==◌, ◌||◌, not, cond, nat_lt, Option, Some, None, Result, Ok, Err, refl, sym, ap, ◌∙◌, arith, length-append, append-nil}
 use Rattle.std.proofs.Math.Seq.{drop-append_seam}
 use Rattle.std.specs.List.{flat_map}
-use Rattle.fc_wire.specs.Bytes.{u16_at, u16_bytes, u32_at, u32_bytes}
+use Rattle.fc_wire.specs.Bytes.{u16_at, u32_at, u32_bytes}
 use Rattle.fc_wire.specs.Tiling.{Tiling, tiling}
 use Rattle.fc_wire.specs.Tlvs.{TlvItem, IsTlv, AreTlvs, tlvs}
-use Rattle.fc_wire.specs.Ilvs.{IlvItem, IsIlv, AreIlvs, ilvs}
+use Rattle.fc_wire.specs.Ilvs.{IlvItem, AreIlvs, ilvs}
 use Rattle.fc_wire.specs.declared.header.WireFault.{WireFault}
 use Rattle.fc_wire.specs.declared.ilvs.Ilv.{Ilv}
 use Rattle.fc_wire.proofs.ItemLaws.{tlvs_read, ilvs_read}
-use Rattle.fc_path.specs.Kinds.{is_known, operation_of, holds_selects, takes_nothing, takes_full, takes_sparse, takes_outcome}
+use Rattle.fc_path.specs.Kinds.{is_known, holds_selects}
 use Rattle.fc_path.specs.Stray.{◌>>=◌, misplaced, beside, trailing, shut}
-use Rattle.fc_path.specs.Reading.{each_in, some_in, single, full_at, outcome_at, own, sparse_in, sparse_at, key_at, leaf_at, path_or, nested_in, body_in, content_in, numbers, path_at, operation_at, oper_by, oper_at, select_at, end_of}
-use Rattle.fc_path.specs.Grammar.{Each, IsResult, IsOwnIlv, IsKey, IsPathBy, IsBody, IsKeyed, IsValue, IsValueIn, IsPath, IsOper, IsSelectValue, IsSelectOf}
+use Rattle.fc_path.specs.Reading.{each_in, some_in, single, full_at, outcome_at, own, sparse_in, sparse_at, key_at, path_or, body_in, content_in, numbers, path_at, oper_by, oper_at, select_at, end_of}
+use Rattle.fc_path.specs.Grammar.{Each, IsResult, IsOwnIlv, IsKey, IsPathBy, IsBody, IsKeyed, IsValueIn, IsPath, IsOper, IsSelectOf}
 use Rattle.fc_path.specs.declared.fault.PathFault.{PathFault}
 use Rattle.fc_path.specs.declared.fault.PathFault.TheVariants as faults
-use Rattle.fc_path.specs.declared.kinds.Operation.{Operation}
-use Rattle.fc_path.specs.declared.kinds.Operation.TheVariants as operation
 use Rattle.fc_path.specs.declared.oper.OperKind.{OperKind}
 use Rattle.fc_path.specs.declared.oper.Oper.{Oper}
 use Rattle.fc_path.specs.declared.oper.Oper.TheVariants as oper
 use Rattle.fc_path.specs.declared.oper.Select.{Select}
 use Rattle.fc_path.specs.declared.path.Key.{Key}
-use Rattle.fc_path.specs.declared.path.PathData.{PathData, roll-PathData}
+use Rattle.fc_path.specs.declared.path.PathData.{PathData}
 use Rattle.fc_path.specs.declared.path.Body.{Body, out-Body, roll-Body}
 use Rattle.fc_path.specs.declared.path.Body.TheOpen.{Body-F}
 use Rattle.fc_path.specs.declared.path.Body.TheVariants as v

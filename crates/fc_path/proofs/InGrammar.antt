@@ -1,16 +1,15 @@
 -- What is written is in the grammar.
-use Rattle.std.proofs.Common.{◌≡◌, ℕ, zero, suc, ◌+◌, ◌-◌, ◌*◌, ◌/◌, ◌%◌, ◌<◌, ◌≤◌, ◌^◌, ◌&&◌, Bool, true, false, nat_lt, List, [], ◌∷◌, ◌++◌, length, map, Option, Some, None, refl, sym, ap, ◌∙◌, subst, arith, rules, length-append, append_assoc, append-nil}
+use Rattle.std.proofs.Common.{◌≡◌, ℕ, zero, suc, ◌+◌, ◌%◌, ◌<◌, ◌^◌, ◌&&◌, Bool, true, false, nat_lt, List, [], ◌∷◌, ◌++◌, length, map, Option, Some, None, refl, sym, ap, ◌∙◌, subst, arith, rules, length-append, append-nil}
 use Rattle.std.specs.List.{flat_map, AllByRecursion}
 use Rattle.fc_wire.specs.Bytes.{u16_bytes, u32_bytes}
 use Rattle.fc_wire.specs.Tlvs.{IsTlv}
-use Rattle.fc_wire.specs.Ilvs.{IsIlv}
-use Rattle.fc_wire.specs.Writing.{padding, tlv_bytes, ilv_bytes}
+use Rattle.fc_wire.specs.Writing.{padding, tlv_bytes}
 use Rattle.fc_wire.specs.declared.ilvs.Ilv.{Ilv}
 use Rattle.fc_wire.proofs.ItemLaws.{tlv_is, ilv_is, tlv_length, ilv_length, no_padding}
 use Rattle.fc_path.specs.Kinds.{number_of}
-use Rattle.fc_path.specs.Canon.{Written, plain, after, joined, wrapped, ilv_written, result_written, key_written, key_flags, body_written, path_written, oper_written, select_written}
+use Rattle.fc_path.specs.Canon.{Written, plain, joined, wrapped, ilv_written, result_written, key_written, key_flags, body_written, path_written, oper_written, select_written}
 use Rattle.fc_path.specs.Proper.{ProperBody, ProperPath, ProperOper, ProperSelect}
-use Rattle.fc_path.specs.Grammar.{Each, IsResult, IsOwnIlv, IsKey, IsPathBy, IsBody, IsKeyed, IsValue, IsValueIn, IsPath, IsOper, IsSelect}
+use Rattle.fc_path.specs.Grammar.{Each, IsResult, IsOwnIlv, IsPathBy, IsBody, IsKeyed, IsValueIn, IsPath, IsOper, IsSelect}
 use Rattle.fc_path.specs.declared.oper.OperKind.{OperKind}
 use Rattle.fc_path.specs.declared.oper.Oper.{Oper}
 use Rattle.fc_path.specs.declared.oper.Oper.TheVariants as oper

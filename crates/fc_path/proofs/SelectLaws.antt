@@ -1,8 +1,8 @@
 -- Laws of selects and their spellings.
-use Rattle.std.proofs.Common.{◌≡◌, ℕ, suc, ◌+◌, ◌-◌, ◌*◌, ◌/◌, ◌%◌, ◌<◌, ◌≤◌, ◌^◌, List, [], ◌∷◌, ◌++◌, length, Option, Some, None, Result, Ok, Err, refl, sym, ap, ◌∙◌, subst, arith, length-append}
-use Rattle.fc_wire.specs.Bytes.{AreBytes, u16_bytes}
-use Rattle.fc_wire.specs.Tiling.{Tiling, tiling, in_front, tiles}
-use Rattle.fc_wire.specs.Tlvs.{TlvItem, IsTlv, IsTlvAt, Lent, tlvs, one_tlv}
+use Rattle.std.proofs.Common.{◌≡◌, ℕ, ◌+◌, ◌-◌, ◌<◌, List, [], ◌++◌, length, Ok, refl, sym, ap, ◌∙◌, arith, length-append}
+use Rattle.fc_wire.specs.Bytes.{AreBytes}
+use Rattle.fc_wire.specs.Tiling.{in_front}
+use Rattle.fc_wire.specs.Tlvs.{TlvItem, IsTlv, Lent, tlvs, one_tlv}
 use Rattle.fc_wire.proofs.Stepping.{one_tlv_falls, tiles_step}
 use Rattle.fc_wire.proofs.Spelled.{tlv_read}
 use Rattle.fc_path.specs.Grammar.{IsSelect, IsSelectOf}

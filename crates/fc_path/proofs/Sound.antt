@@ -1,22 +1,21 @@
 -- What is read is spelled so.
-use Rattle.std.proofs.Common.{◌≡◌, ◌≢◌, ℕ, zero, suc, ◌+◌, ◌-◌, ◌*◌, ◌/◌, ◌%◌, ◌<◌, ◌≤◌, ◌^◌, List, [], ◌∷◌, ◌++◌, length, take, drop, map, Bool, true, false, ◌==◌, ◌&&◌, ◌||◌, not, cond, nat_lt, Option, Some, None, Result, Ok, Err, IfOk, refl, sym, ap, ◌∙◌, subst, arith, ◌⊎◌, inl, inr, ⊎_elim, slice_index, eqb-true, length-append, append_assoc, append-nil}
-use Rattle.std.proofs.lemmas.List.{take-append-drop, length-drop}
+use Rattle.std.proofs.Common.{◌≡◌, ℕ, zero, suc, ◌+◌, ◌*◌, ◌/◌, ◌%◌, ◌<◌, ◌≤◌, ◌^◌, List, [], ◌∷◌, ◌++◌, length, drop, map, Bool, true, false, ◌==◌, ◌&&◌, ◌||◌, not, cond, nat_lt, Option, Some, None, Result, Ok, Err, IfOk, refl, sym, ap, ◌∙◌, subst, arith, ◌⊎◌, inl, inr, ⊎_elim, slice_index, eqb-true, length-append, append-nil}
+use Rattle.std.proofs.lemmas.List.{length-drop}
 use borrow.Author.Tests.{ltb-false}
-use Rattle.std.specs.List.{flat_map, AllByRecursion}
+use Rattle.std.specs.List.{flat_map}
 use Rattle.fc_wire.specs.Bytes.{u16_at, u16_bytes, u32_at, u32_bytes, AreBytes}
-use Rattle.fc_wire.specs.Tiling.{Tiling, tiling, IsTiling}
-use Rattle.fc_wire.specs.Tlvs.{TlvItem, IsTlv, IsTlvAt, AreTlvs, tlvs, tlv_fault}
-use Rattle.fc_wire.specs.Ilvs.{IlvItem, IsIlv, IsIlvAt, AreIlvs, ilvs, ilv_fault}
+use Rattle.fc_wire.specs.Tiling.{IsTiling}
+use Rattle.fc_wire.specs.Tlvs.{TlvItem, IsTlv, IsTlvAt, tlvs, tlv_fault}
+use Rattle.fc_wire.specs.Ilvs.{IlvItem, IsIlvAt, ilvs, ilv_fault}
 use Rattle.fc_wire.specs.declared.header.WireFault.{WireFault}
 use Rattle.fc_wire.specs.declared.ilvs.Ilv.{Ilv}
 use Rattle.fc_wire.proofs.ItemLaws.{tlvs_described, ilvs_described}
 use Rattle.fc_wire.proofs.Spelled.{bytes_drop}
-use Rattle.fc_path.specs.Kinds.{is_known, in_select, operation_of, holds_selects, takes_nothing, takes_full, takes_sparse, takes_outcome}
+use Rattle.fc_path.specs.Kinds.{is_known, operation_of, holds_selects, takes_nothing, takes_full, takes_sparse, takes_outcome}
 use Rattle.fc_path.specs.Stray.{◌>>=◌, Gives, misplaced, beside, trailing, shut}
 use Rattle.fc_path.specs.Reading.{each_in, some_in, single, full_at, outcome_at, own, sparse_in, sparse_at, key_at, leaf_at, path_or, nested_in, body_in, content_in, numbers, path_at, operation_at, oper_by, oper_at, select_at, end_of}
-use Rattle.fc_path.specs.Grammar.{Each, IsResult, IsOwnIlv, IsKey, IsPathBy, IsBody, IsKeyed, IsValue, IsValueIn, IsPath, IsOper, IsSelectValue, IsSelectOf}
+use Rattle.fc_path.specs.Grammar.{Each, IsResult, IsOwnIlv, IsKey, IsPathBy, IsBody, IsKeyed, IsValue, IsValueIn, IsPath, IsOper, IsSelectOf}
 use Rattle.fc_path.specs.declared.fault.PathFault.{PathFault}
-use Rattle.fc_path.specs.declared.fault.PathFault.TheVariants as faults
 use Rattle.fc_path.specs.declared.kinds.Operation.{Operation}
 use Rattle.fc_path.specs.declared.kinds.Operation.TheVariants as operation
 use Rattle.fc_path.specs.declared.oper.OperKind.{OperKind}

@@ -1,12 +1,12 @@
 -- Reading, one step at a time.
-use Rattle.std.proofs.Common.{◌≡◌, ◌≢◌, ℕ, zero, suc, ◌+◌, ◌-◌, ◌*◌, ◌/◌, ◌<◌, ◌≤◌, ◌^◌, ◌==◌, ◌||◌, List, [], ◌∷◌, ◌++◌, length, drop, Bool, true, false, nat_lt, cond, not, Option, Some, None, Result, Ok, Err, refl, sym, ap, ◌∙◌, arith, append_assoc, append-nil, subst, ne_eqb}
+use Rattle.std.proofs.Common.{◌≡◌, ◌≢◌, ℕ, suc, ◌+◌, ◌*◌, ◌/◌, ◌<◌, ◌≤◌, ◌^◌, ◌==◌, ◌||◌, List, [], ◌∷◌, ◌++◌, length, drop, Bool, true, false, nat_lt, cond, not, Option, Some, None, Result, Ok, Err, refl, sym, ap, ◌∙◌, arith, append_assoc, append-nil, subst, ne_eqb}
 use Rattle.std.specs.Bool.{beq}
 use Rattle.fc_wire.specs.Bytes.{u16_at}
-use Rattle.fc_wire.specs.Tiling.{Tiling, tiling, next_of, rest_of}
+use Rattle.fc_wire.specs.Tiling.{Tiling, next_of, rest_of}
 use Rattle.fc_wire.specs.Tlvs.{TlvItem, tlvs}
 use Rattle.fc_wire.specs.declared.header.WireFault.{WireFault}
 use Rattle.fc_path.specs.Kinds.{is_known}
-use Rattle.fc_path.specs.Stray.{◌>>=◌, Fails, Gives, beside, shut}
+use Rattle.fc_path.specs.Stray.{◌>>=◌, Fails, beside, shut}
 use Rattle.fc_path.specs.Reading.{each_in, some_in, path_or, body_in, key_at, leaf_at, path_at, content_in, numbers, end_of}
 use Rattle.fc_path.specs.declared.fault.PathFault.{PathFault}
 use Rattle.fc_path.specs.declared.fault.PathFault.TheVariants as faults

@@ -1,6 +1,7 @@
 pub mod Canon
 pub mod Grammar
 pub mod Kinds
+pub mod Leaves
 pub mod Proper
 pub mod Reading
 pub mod Stray

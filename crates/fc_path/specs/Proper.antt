@@ -1,7 +1,7 @@
 -- Selects that the grammar has a spelling for, lengths aside: RFC 5810, section 7.1.5 to 7.1.7. Each operation may stand
 -- in the message, each body is one of its operation, no list that needs an item is empty, and PATH-DATA nest at most 16
 -- deep.
-use Rattle.std.specs.Prelude.{◌≡◌, ◌<◌, ℕ, zero, suc, true, List, length, Some}
+use Rattle.std.specs.Prelude.{◌≡◌, ◌<◌, ℕ, zero, suc, true, length, Some}
 use Rattle.std.specs.List.{AllByRecursion}
 use Rattle.fc_path.specs.Kinds.{operation_of, number_of, holds_selects, takes_nothing, takes_full, takes_sparse, takes_outcome}
 use Rattle.fc_path.specs.declared.kinds.Operation.TheVariants as operation

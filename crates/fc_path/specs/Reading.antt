@@ -1,8 +1,7 @@
 -- What reading gives: the select that a TLV is, or the first rule in reading order that it breaks, with its place. RFC
 -- 5810, section 7.1.5 to 7.1.7, on the bytes; the faults and their order are this profile's own.
-use Rattle.std.specs.Prelude.{◌≡◌, ℕ, zero, suc, ◌+◌, ◌*◌, ◌/◌, ◌^◌, ◌==◌, ◌&&◌, ◌||◌, not, Bool, true, false, nat_lt, List, [], ◌∷◌, length, drop, map, slice_index, Option, Some, None, Result, Ok, Err, if◌then◌else◌}
+use Rattle.std.specs.Prelude.{ℕ, zero, suc, ◌+◌, ◌*◌, ◌/◌, ◌^◌, ◌==◌, ◌&&◌, ◌||◌, not, Bool, nat_lt, List, [], ◌∷◌, length, drop, map, slice_index, Option, Some, None, Result, Ok, Err, if◌then◌else◌}
 use Rattle.fc_wire.specs.Bytes.{u16_at, u32_at}
-use Rattle.fc_wire.specs.Tiling.{Tiling}
 use Rattle.fc_wire.specs.Tlvs.{TlvItem, tlvs}
 use Rattle.fc_wire.specs.Ilvs.{IlvItem, ilvs}
 use Rattle.fc_wire.specs.declared.header.WireFault.{WireFault}

@@ -1,5 +1,5 @@
 -- TLVs that may not stand where they do, and the fault of each (this profile's own order of refusals).
-use Rattle.std.specs.Prelude.{◌≡◌, ℕ, List, [], ◌∷◌, Option, Some, None, Result, Ok, Err, if◌then◌else◌}
+use Rattle.std.specs.Prelude.{◌≡◌, List, [], ◌∷◌, Option, Some, None, Result, Ok, Err, if◌then◌else◌}
 use Rattle.fc_wire.specs.Tlvs.{TlvItem}
 use Rattle.fc_wire.specs.declared.header.WireFault.{WireFault}
 use Rattle.fc_path.specs.Kinds.{is_known}

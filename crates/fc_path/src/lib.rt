@@ -4,6 +4,7 @@
 mod fault;
 mod kinds;
 mod laws;
+mod leaves;
 mod oper;
 mod path;
 mod read_path;

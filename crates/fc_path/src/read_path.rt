@@ -182,11 +182,12 @@ fn read_content(
     ensures { Gives result (content_in kind (path_at kind depth) path keyed (place + length inner.now) (tiling_of place inner.now).items (tiling_of place inner.now).fault) }
 {
     let end = place + inner.len();
+    let flags = path + 4;
     let mut tlvs = Tlvs::over(inner, place);
     match tlvs.next() {
         None => {
             if keyed {
-                return Err(PathFault::KeyFlag { place: path + 4 });
+                return Err(PathFault::KeyFlag { place: flags });
             }
             let body = read_body(alloc, kind, depth, tlvs, end)?;
             Ok((None, body))
@@ -197,7 +198,7 @@ fn read_content(
                 return Err(PathFault::UnknownTlv { place: tlv.place });
             }
             if keyed != (tlv.kind == KEY_INFO) {
-                return Err(PathFault::KeyFlag { place: path + 4 });
+                return Err(PathFault::KeyFlag { place: flags });
             }
             if keyed {
                 let key = read_key(alloc, &tlv)?;

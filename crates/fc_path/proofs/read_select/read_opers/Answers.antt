@@ -1,6 +1,5 @@
-use Rattle.std.proofs.Common.{◌≡◌, Ok, Some, [], sym, ap, ◌∙◌, arith}
-use Rattle.std.proofs.lemmas.Grind.{common_steps}
-use Rattle.fc_path.specs.Reading.{oper_at, each_in}
+use Rattle.std.proofs.Common.{Ok, Some, sym, ap, ◌∙◌}
+use Rattle.fc_path.specs.Reading.{oper_at}
 use Rattle.fc_path.proofs.Steps.{loop_goes, loop_end, some_empty}
 use Rattle.fc_path.proofs.read_select.read_opers.Goals as goal
 

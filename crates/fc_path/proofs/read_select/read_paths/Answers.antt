@@ -1,8 +1,8 @@
-use Rattle.std.proofs.Common.{◌≡◌, Ok, Some, [], sym, ap, ◌∙◌, arith}
+use Rattle.std.proofs.Common.{◌≡◌, Some, sym, ap, ◌∙◌}
 use Rattle.std.proofs.lemmas.Result.{err_from_is_err_and}
 use Rattle.fc_wire.specs.Tlvs.{TlvItem}
 use Rattle.fc_path.specs.Stray.{misplaced}
-use Rattle.fc_path.specs.Reading.{path_at, path_or, each_in}
+use Rattle.fc_path.specs.Reading.{path_at, path_or}
 use Rattle.fc_path.proofs.Steps.{loop_goes, loop_fails, some_fails, or_path, or_fails}
 use Rattle.fc_path.proofs.read_select.read_paths.Goals as goal
 

@@ -1,4 +1,4 @@
-use Rattle.std.proofs.Common.{◌≡◌, ◌+◌, ◌++◌, length, sym, ap, ◌∙◌, arith}
+use Rattle.std.proofs.Common.{◌+◌, ◌++◌, ap, ◌∙◌, arith}
 use Rattle.fc_wire.specs.Writing.{writing, padding}
 use Rattle.fc_path.proofs.Closing.{ilv_closing}
 use Rattle.fc_path.proofs.write.write_ilv.Goals as goal

@@ -1,4 +1,4 @@
-use Rattle.std.proofs.Common.{◌≡◌, map, arith}
+use Rattle.std.proofs.Common.{map, arith}
 use Rattle.std.proofs.lemmas.Result.{err_from_is_err_and}
 use Rattle.fc_path.specs.Canon.{joined, ilv_written}
 use Rattle.fc_path.proofs.Closing.{fails_to, joined_more, joined_fails}

@@ -1,4 +1,4 @@
-use Rattle.std.proofs.Common.{◌≡◌, ◌++◌, take, map, Ok}
+use Rattle.std.proofs.Common.{take, map, Ok}
 use Rattle.fc_path.specs.Canon.{Pushed, joined, ilv_written}
 use Rattle.fc_path.proofs.write.write_ilvs.Given as goal
 

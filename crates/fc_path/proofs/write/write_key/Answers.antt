@@ -1,4 +1,4 @@
-use Rattle.std.proofs.Common.{Ok, Some, sym, ap, ◌∙◌, subst}
+use Rattle.std.proofs.Common.{Ok, sym, subst}
 use Rattle.fc_path.specs.Canon.{Pushed, key_written, wrapped, plain}
 use Rattle.fc_path.proofs.Closing.{key_closing}
 use Rattle.fc_path.proofs.write.write_key.Goals as goal

@@ -1,4 +1,4 @@
-use Rattle.std.proofs.Common.{◌≡◌, length, [], ◌∷◌, ◌++◌, true, refl, sym, ap, ◌∙◌}
+use Rattle.std.proofs.Common.{length, [], ◌∷◌, ◌++◌, true, refl}
 use Rattle.fc_wire.specs.Writing.{head_bytes}
 use Rattle.fc_path.proofs.Closing.{closing, grow}
 use Rattle.fc_path.proofs.write.write_leaf.Goals as goal

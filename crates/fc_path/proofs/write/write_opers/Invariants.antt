@@ -1,4 +1,4 @@
-use Rattle.std.proofs.Common.{◌≡◌, ◌++◌, take, map, Ok}
+use Rattle.std.proofs.Common.{take, map, Ok}
 use Rattle.fc_path.specs.Canon.{Pushed, joined, oper_written}
 use Rattle.fc_path.proofs.write.write_opers.Given as goal
 

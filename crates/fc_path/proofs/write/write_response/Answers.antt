@@ -1,4 +1,3 @@
-use Rattle.std.proofs.Common.{map}
 use Rattle.fc_path.specs.Canon.{result_written}
 use Rattle.fc_path.proofs.Closing.{holder}
 use Rattle.fc_path.proofs.write.write_response.Goals as goal

@@ -1,4 +1,4 @@
-use Rattle.std.proofs.Common.{Ok, map, sym, subst}
+use Rattle.std.proofs.Common.{Ok, map, subst}
 use Rattle.fc_path.specs.Canon.{Pushed, joined, oper_written}
 use Rattle.fc_path.proofs.Closing.{select_closing}
 use Rattle.fc_path.proofs.write.write_select.Goals as goal

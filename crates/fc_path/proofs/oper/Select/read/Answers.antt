@@ -1,4 +1,4 @@
-use Rattle.std.proofs.Common.{Ok, length, ◌%◌, ap, ◌∙◌, sym, subst, arith}
+use Rattle.std.proofs.Common.{length, ap, subst, arith}
 use Rattle.fc_wire.specs.Bytes.{AreBytes}
 use Rattle.fc_path.specs.Stray.{Gives}
 use Rattle.fc_path.proofs.Complete.{select_read}
