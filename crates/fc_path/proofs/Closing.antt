@@ -33,7 +33,7 @@ pub both_true : (a b : Bool) → a ≡ true → b ≡ true → (a && b) ≡ true
 both_true true b h k = k
 both_true false b h k = cc
 
-and_assoc : (a b c : Bool) → ((a && b) && c) ≡ (a && (b && c))
+pub and_assoc : (a b c : Bool) → ((a && b) && c) ≡ (a && (b && c))
 and_assoc true b c = refl
 and_assoc false b c = refl
 
@@ -63,11 +63,11 @@ pub fails_to : (e : WriteFault) (w v : Written) (a b c d : Writing) → (w.fits 
 fails_to faults.TooLong w v a b c d f h = f h
 fails_to faults.Memory w v a b c d f h = tt
 
-joined_after : (xs ys : List Written) → (joined (xs ++ ys)).text ≡ (joined xs).text ++ (joined ys).text
+pub joined_after : (xs ys : List Written) → (joined (xs ++ ys)).text ≡ (joined xs).text ++ (joined ys).text
 joined_after [] ys = refl
 joined_after (x ∷ xs) ys = ap (λ l. x.text ++ l) (joined_after xs ys) ∙ sym (append_assoc x.text (joined xs).text (joined ys).text)
 
-joined_fits : (xs ys : List Written) → (joined (xs ++ ys)).fits ≡ ((joined xs).fits && (joined ys).fits)
+pub joined_fits : (xs ys : List Written) → (joined (xs ++ ys)).fits ≡ ((joined xs).fits && (joined ys).fits)
 joined_fits [] ys = refl
 joined_fits (x ∷ xs) ys = ap (λ b. x.fits && b) (joined_fits xs ys) ∙ sym (and_assoc x.fits (joined xs).fits (joined ys).fits)
 

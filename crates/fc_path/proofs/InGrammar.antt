@@ -51,21 +51,21 @@ full_is value = search (rules, the_lemmas)
 sparse_is : (ilvs : List Ilv) → body_written (v.Sparse ilvs) ≡ wrapped 275 (joined (map ilv_written ilvs))
 sparse_is ilvs = search (rules, the_lemmas)
 
-outcome_is : (code : ℕ) → body_written (v.Outcome code) ≡ result_written code
+pub outcome_is : (code : ℕ) → body_written (v.Outcome code) ≡ result_written code
 outcome_is code = search (rules, the_lemmas)
 
 -- all spellings are multiples of four
-joined_whole : {A : Type 0} (f : A → Written) (whole : (x : A) → length (f x).text % 4 ≡ 0) (xs : List A) → length (joined (map f xs)).text % 4 ≡ 0
+pub joined_whole : {A : Type 0} (f : A → Written) (whole : (x : A) → length (f x).text % 4 ≡ 0) (xs : List A) → length (joined (map f xs)).text % 4 ≡ 0
 joined_whole f whole [] = refl
 joined_whole f whole (x ∷ xs) = omega (arith, whole x, joined_whole f whole xs, length-append (f x).text (joined (map f xs)).text)
 
 ilv_whole : (ilv : Ilv) → length (ilv_written ilv).text % 4 ≡ 0
 ilv_whole ilv = ilv_length ilv.ident ilv.value
 
-path_whole : (p : PathData) → length (path_written p).text % 4 ≡ 0
+pub path_whole : (p : PathData) → length (path_written p).text % 4 ≡ 0
 path_whole p = ap (λ w. length w.text % 4) (path_is p) ∙ tlv_length 272 _
 
-oper_whole : (o : Oper) → length (oper_written o).text % 4 ≡ 0
+pub oper_whole : (o : Oper) → length (oper_written o).text % 4 ≡ 0
 oper_whole (oper.Paths kind paths) = tlv_length (number_of kind) _
 oper_whole oper.Commit = tlv_length 12 []
 oper_whole oper.Trcomp = tlv_length 14 []
@@ -78,10 +78,10 @@ layer_whole (Body-F.Sparse ilvs) = ap (λ w. length w.text % 4) (ap body_written
 layer_whole (Body-F.Outcome code) = ap (λ w. length w.text % 4) (ap body_written (v.rolls-Outcome code) ∙ outcome_is code) ∙ tlv_length 276 _
 layer_whole (Body-F.Nested ps) = ap (λ w. length w.text % 4) (ap body_written (v.rolls-Nested ps) ∙ nested_is ps) ∙ joined_whole path_written path_whole ps
 
-body_whole : (b : Body) → length (body_written b).text % 4 ≡ 0
+pub body_whole : (b : Body) → length (body_written b).text % 4 ≡ 0
 body_whole b = ap (λ x. length (body_written x).text % 4) (sym (roll-out-Body b)) ∙ layer_whole (out-Body b)
 
-key_whole : (key : Option Key) → length (key_written key).text % 4 ≡ 0
+pub key_whole : (key : Option Key) → length (key_written key).text % 4 ≡ 0
 key_whole None = refl
 key_whole (Some key) = tlv_length 273 _
 

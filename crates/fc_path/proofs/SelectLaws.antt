@@ -1,5 +1,5 @@
 -- Laws of selects and their spellings.
-use Rattle.std.proofs.Common.{◌≡◌, ℕ, ◌+◌, ◌-◌, ◌<◌, List, [], ◌++◌, length, Ok, refl, sym, ap, ◌∙◌, arith, length-append}
+use Rattle.std.proofs.Common.{◌≡◌, ℕ, ◌+◌, ◌-◌, ◌<◌, List, [], ◌++◌, length, Result, Ok, Err, refl, sym, ap, ◌∙◌, arith, length-append, ◌⊎◌, inl, inr}
 use Rattle.fc_wire.specs.Bytes.{AreBytes}
 use Rattle.fc_wire.specs.Tiling.{in_front}
 use Rattle.fc_wire.specs.Tlvs.{TlvItem, IsTlv, Lent, tlvs, one_tlv}
@@ -7,6 +7,7 @@ use Rattle.fc_wire.proofs.Stepping.{one_tlv_falls, tiles_step}
 use Rattle.fc_wire.proofs.Spelled.{tlv_read}
 use Rattle.fc_path.specs.Grammar.{IsSelect, IsSelectOf}
 use Rattle.fc_path.specs.Reading.{select_at}
+use Rattle.fc_path.specs.declared.fault.PathFault.{PathFault}
 use Rattle.fc_path.specs.declared.oper.Select.{Select}
 use Rattle.fc_path.proofs.Complete.{select_read, item}
 use Rattle.fc_path.proofs.Sound.{select_spelled, ok_same}
@@ -43,3 +44,16 @@ again message place s bytes more h =
     let t = item 4096 place h.0 h.1 in
     let next : place + (length (bytes ++ more) - length more) ≡ place + length bytes = omega (arith, length-append bytes more) in
     (t, tiles_step one_tlv one_tlv_falls place (bytes ++ more) (t, more) (some_bytes 4096 h.0 h.1 bytes more h.3) (tlv_read place t bytes more (refl, h.3)) ∙ ap (λ p. in_front t (tlvs p more)) next, refl, read_as message place s bytes h)
+
+abbrev Either : ℕ → TlvItem → Type 0
+Either message tlv = ((s : Select) × IsSelectOf message s tlv) ⊎ ((fault : PathFault) × (select_at message tlv ≡ Err fault) × ((s : Select) → IsSelectOf message s tlv → ⊥))
+
+apart : (s : Select) (fault : PathFault) → ◌≡◌ {A = Result Select PathFault} (Err fault) (Ok s) → ⊥
+apart s fault e = cc
+
+either_of : (message : ℕ) (tlv : TlvItem) (r : Result Select PathFault) → Lent tlv → AreBytes tlv.padded → select_at message tlv ≡ r → Either message tlv
+either_of message tlv (Ok s) lent fine e = inl (s, select_spelled message s tlv fine lent.whole lent.cut e)
+either_of message tlv (Err fault) lent fine e = inr (fault, e, λ s h. apart s fault (sym e ∙ select_read message s tlv lent.few h))
+
+pub either : (message : ℕ) (tlv : TlvItem) → Lent tlv → AreBytes tlv.padded → Either message tlv
+either message tlv lent fine = either_of message tlv (select_at message tlv) lent fine refl

@@ -4,4 +4,5 @@ pub mod Kinds
 pub mod Leaves
 pub mod Proper
 pub mod Reading
+pub mod Results
 pub mod Stray

@@ -1,5 +1,5 @@
 // Laws of selects and their spellings.
-ghost use Rattle.std.specs.Prelude.{◌≡◌, ◌+◌, ◌++◌, ◌%◌, ◌<◌, ◌≤◌, List, ℕ, length, Ok, Err, true};
+ghost use Rattle.std.specs.Prelude.{◌≡◌, ◌+◌, ◌++◌, ◌%◌, ◌<◌, ◌≤◌, ◌⊎◌, List, ℕ, length, Ok, Err, true};
 ghost use Rattle.fc_wire.specs.Bytes.{AreBytes};
 ghost use Rattle.fc_wire.specs.Tiling.{in_front};
 ghost use Rattle.fc_wire.specs.Tlvs.{TlvItem, Lent, tlvs};
@@ -7,6 +7,7 @@ ghost use Rattle.fc_path.specs.Canon.{select_written};
 ghost use Rattle.fc_path.specs.Grammar.{IsSelect, IsSelectOf};
 ghost use Rattle.fc_path.specs.Proper.{ProperSelect};
 ghost use Rattle.fc_path.specs.Reading.{select_at};
+ghost use Rattle.fc_path.specs.declared.fault.PathFault.{PathFault};
 ghost use Rattle.fc_path.specs.declared.oper.Select.{Select};
 
 /// A TLV is at most one select, and the same bytes are at most one.
@@ -15,10 +16,13 @@ pub fn selects_are_unique()
     ensures bytes { (message : ℕ) (bytes : List ℕ) (s r : Select) → IsSelect message s bytes → IsSelect message r bytes → s ≡ r }
 {}
 
-/// A TLV is a select exactly where reading gives that select, and so it is one or has exactly one fault.
+/// Reading gives a select exactly where the TLV is that select, and so each TLV either is exactly one select, or has
+/// exactly one fault and is none.
 pub fn reading_is_the_grammar()
-    ensures { (message : ℕ) (tlv : TlvItem) (s : Select) → Lent tlv → AreBytes tlv.padded →
+    ensures same { (message : ℕ) (tlv : TlvItem) (s : Select) → Lent tlv → AreBytes tlv.padded →
         (IsSelectOf message s tlv → select_at message tlv ≡ Ok s) × (select_at message tlv ≡ Ok s → IsSelectOf message s tlv) }
+    ensures either { (message : ℕ) (tlv : TlvItem) → Lent tlv → AreBytes tlv.padded →
+        ((s : Select) × IsSelectOf message s tlv) ⊎ ((fault : PathFault) × (select_at message tlv ≡ Err fault) × ((s : Select) → IsSelectOf message s tlv → ⊥)) }
 {}
 
 /// What is written of a proper select is one of its spellings, and is read again as itself, also inside other bytes.

@@ -9,6 +9,7 @@ mod oper;
 mod path;
 mod read_path;
 mod read_select;
+mod results;
 mod stray;
 #[cfg(test)]
 mod tests;
@@ -18,3 +19,4 @@ pub use fault::PathFault;
 pub use laws::{reading_is_the_grammar, selects_are_unique, written_selects_are_read};
 pub use oper::{Leaf, Oper, OperKind, Select, Spot, Step};
 pub use path::{Body, Key, PathData};
+pub use results::fits_results;

@@ -1,5 +1,6 @@
 // Selects and faults whose bytes and places stand in the specification of the format.
-use crate::{PathFault, Select};
+use crate::{Body, Oper, OperKind, PathData, PathFault, Select, Step, fits_results};
+use fc_base::{Duplicate, List, Memory, Octets};
 use fc_wire::{TlvWriter, Tlvs, WireFault};
 use std::alloc::{AllocError, Global};
 use std::test::Fail;
@@ -277,5 +278,92 @@ fn path_data_nest_sixteen_deep(rt: HostRuntime) -> Result<(), Fail> {
     let alloc = rt.alloc();
     assert!(rt; read(alloc, 4, &nested(alloc, 16)?).is_ok());
     assert!(rt; read(alloc, 4, &nested(alloc, 17)?) == Err(PathFault::Deep { place: 168 }));
+    Ok(())
+}
+
+#[test]
+fn leaves_have_the_steps_of_all_that_they_stand_in(rt: HostRuntime) -> Result<(), Fail> {
+    let alloc = rt.alloc();
+    let nested =
+        "10000038 00001001 00000001 0008002C 01100028 00000001 00000001 0110000C 00000001 00000002 01100010 00000002 00000003 00000004";
+    let keyed =
+        "1000002C 00001001 00000001 00050020 0110001C 80000001 00000004 01110010 00000001 01120008 65746830";
+    match read(alloc, 4, &bytes_of(alloc, nested)?) {
+        Ok(select) => {
+            let leaves = select.copy()?.leaves()?;
+            assert_eq!(rt; leaves.len(), 2);
+            let wanted: [&[u32]; 2] = [&[1, 2], &[1, 3, 4]];
+            for (leaf, ids) in leaves.as_slice().iter().zip(wanted) {
+                assert!(rt; leaf.kind == OperKind::GetProp);
+                assert_eq!(rt; (leaf.spot.class, leaf.spot.instance), (0x1001, 1));
+                assert!(rt; leaf.body == Body::Nothing);
+                let mut steps = List::new(alloc);
+                for id in ids {
+                    steps.push(Step::Id(*id))?;
+                }
+                assert!(rt; leaf.spot.steps == steps);
+            }
+        }
+        Err(_) => assert!(rt; false),
+    }
+    match read(alloc, 3, &bytes_of(alloc, keyed)?) {
+        Ok(select) => {
+            let leaves = select.leaves()?;
+            let mut steps = List::new(alloc);
+            steps.push(Step::Id(4))?;
+            steps.push(Step::Key(1, Octets::from_slice(alloc, b"eth0")?))?;
+            assert_eq!(rt; leaves.len(), 1);
+            for leaf in leaves.as_slice() {
+                let leaf = leaf.copy()?;
+                assert!(rt; leaf.kind == OperKind::Del && leaf.spot.steps == steps);
+            }
+        }
+        Err(_) => assert!(rt; false),
+    }
+    Ok(())
+}
+
+// A SET of so many bytes at a place of so many steps.
+fn wide(alloc: Global, steps: u32, size: u32) -> Result<Select, Memory> {
+    let mut ids = List::new(alloc);
+    for step in 0..steps {
+        ids.push(step)?;
+    }
+    let mut value = Vec::new(alloc);
+    for _ in 0..size {
+        value.push(1)?;
+    }
+    let mut paths = List::new(alloc);
+    paths.push(PathData {
+        ids,
+        key: None,
+        body: Body::Full(Octets::from_vec(value)),
+    })?;
+    let mut opers = List::new(alloc);
+    opers.push(Oper::Paths(OperKind::Set, paths))?;
+    opers.push(Oper::Trcomp)?;
+    Ok(Select {
+        class: 1,
+        instance: 1,
+        opers,
+    })
+}
+
+#[test]
+fn results_fit_up_to_the_last_byte(rt: HostRuntime) -> Result<(), Fail> {
+    let alloc = rt.alloc();
+    for (steps, size, count, want) in [
+        (16375, 0, 1, true),
+        (16376, 0, 1, false),
+        (1, 60000, 1, true),
+        (16374, 0, 4, true),
+        (16375, 0, 4, false),
+    ] {
+        let mut selects = Vec::new(alloc);
+        for _ in 0..count {
+            selects.push(wide(alloc, steps, size)?)?;
+        }
+        assert_eq!(rt; fits_results(selects.as_slice()), want, "{steps} {count}");
+    }
     Ok(())
 }

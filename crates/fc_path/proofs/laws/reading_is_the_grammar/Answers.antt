@@ -1,5 +1,8 @@
-use Rattle.fc_path.proofs.SelectLaws.{grammar}
+use Rattle.fc_path.proofs.SelectLaws.{grammar, either}
 use Rattle.fc_path.proofs.laws.reading_is_the_grammar.Goals as goal
 
-pub returns : goal.returns
-returns c = grammar
+pub returns-clause-same : goal.returns-clause-same
+returns-clause-same c = grammar
+
+pub returns-clause-either : goal.returns-clause-either
+returns-clause-either c = either
