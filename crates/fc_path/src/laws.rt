@@ -8,6 +8,7 @@ ghost use Rattle.fc_path.specs.Grammar.{IsSelect, IsSelectOf};
 ghost use Rattle.fc_path.specs.Proper.{ProperSelect};
 ghost use Rattle.fc_path.specs.Reading.{select_at};
 ghost use Rattle.fc_path.specs.declared.fault.PathFault.{PathFault};
+ghost use Rattle.fc_path.specs.declared.fault.PathFault.TheVariants.{Memory};
 ghost use Rattle.fc_path.specs.declared.oper.Select.{Select};
 
 /// A TLV is at most one select, and the same bytes are at most one.
@@ -17,12 +18,13 @@ pub fn selects_are_unique()
 {}
 
 /// Reading gives a select exactly where the TLV is that select, and so each TLV either is exactly one select, or has
-/// exactly one fault and is none.
+/// exactly one fault, which has a place, and is none.
 pub fn reading_is_the_grammar()
     ensures same { (message : ℕ) (tlv : TlvItem) (s : Select) → Lent tlv → AreBytes tlv.padded →
         (IsSelectOf message s tlv → select_at message tlv ≡ Ok s) × (select_at message tlv ≡ Ok s → IsSelectOf message s tlv) }
     ensures either { (message : ℕ) (tlv : TlvItem) → Lent tlv → AreBytes tlv.padded →
         ((s : Select) × IsSelectOf message s tlv) ⊎ ((fault : PathFault) × (select_at message tlv ≡ Err fault) × ((s : Select) → IsSelectOf message s tlv → ⊥)) }
+    ensures placed { (message : ℕ) (tlv : TlvItem) → select_at message tlv ≡ Err Memory → ⊥ }
 {}
 
 /// What is written of a proper select is one of its spellings, and is read again as itself, also inside other bytes.

@@ -1,3 +1,4 @@
+use Rattle.fc_path.proofs.Placed.{never_memory}
 use Rattle.fc_path.proofs.SelectLaws.{grammar, either}
 use Rattle.fc_path.proofs.laws.reading_is_the_grammar.Goals as goal
 
@@ -6,3 +7,6 @@ returns-clause-same c = grammar
 
 pub returns-clause-either : goal.returns-clause-either
 returns-clause-either c = either
+
+pub returns-clause-placed : goal.returns-clause-placed
+returns-clause-placed c = never_memory
