@@ -1,5 +1,5 @@
 -- What a node is after bytes of a peer.
-use Rattle.std.proofs.Common.{◌≡◌, ℕ, List, [], ◌++◌, true, false, refl, sym, ap, ◌∙◌, Option, Some}
+use Rattle.std.proofs.Common.{◌≡◌, ℕ, List, [], ◌++◌, true, false, refl, Some}
 use Rattle.fc_element.specs.ElementState.{ElementState}
 use Rattle.fc_tool.specs.declared.peers.Peer.{Peer}
 use Rattle.fc_tool.specs.ElementNode.{NodeState, frames, hears, left_of, node, on_bytes, put_left, rest, without}

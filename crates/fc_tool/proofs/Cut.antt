@@ -1,12 +1,10 @@
 -- The frames of bytes, one by one.
-use Rattle.std.proofs.Common.{◌≡◌, ◌≤◌, ◌<◌, ◌+◌, ℕ, zero, suc, List, [], ◌∷◌, ◌++◌, length, take, drop, true, false, nat_lt, refl, sym, ap, ◌∙◌, append_assoc, arith, inl, inr}
-use Rattle.std.specs.List.{AllByRecursion}
+use Rattle.std.proofs.Common.{◌≡◌, ◌≤◌, ◌<◌, ℕ, zero, suc, List, [], length, take, drop, true, false, nat_lt, refl, sym, ap, ◌∙◌, arith, inl, inr}
 use Rattle.std.proofs.lemmas.Bool.{cases_lt}
 use Rattle.std.proofs.lemmas.Bool.Decides.{nat_tests}
-use Rattle.std.proofs.lemmas.List.{length-drop, take-append-drop}
-use Rattle.fc_wire.specs.Frames.{Frames, IsFrame, IsPartial, frame_len, joined}
-use Rattle.fc_wire.proofs.Cutting.{cut_frame}
-use Rattle.fc_tool.specs.ElementNode.{Cut, cut, cut_by, cut_of, frames, in_front, rest}
+use Rattle.std.proofs.lemmas.List.{length-drop}
+use Rattle.fc_wire.specs.Frames.{frame_len}
+use Rattle.fc_tool.specs.ElementNode.{cut, cut_by, cut_of, in_front}
 
 is_less : (m n : ℕ) → m < n → nat_lt m n ≡ true
 is_less m n lt = grind (arith, nat_tests)

@@ -1,14 +1,14 @@
 -- What the frames of a peer make of an element, frame by frame.
-use Rattle.std.proofs.Common.{◌≡◌, ◌≤◌, ◌<◌, ℕ, List, [], ◌∷◌, ◌++◌, length, take, drop, true, false, Bool, refl, sym, ap, ◌∙◌, append_assoc, append-nil, Option, Some, None}
+use Rattle.std.proofs.Common.{◌≡◌, ◌≤◌, ◌<◌, ℕ, List, [], ◌∷◌, ◌++◌, length, take, drop, true, false, sym, ap, ◌∙◌, append_assoc, append-nil, Some, None}
 use Rattle.fc_wire.specs.Frames.{frame_len}
 use Rattle.fc_hub.specs.declared.event.Act.{Act}
 use Rattle.fc_hub.specs.declared.event.Act.TheVariants.{Shut}
 use Rattle.fc_msg.specs.declared.message.Message.{Message}
 use Rattle.fc_msg.specs.Reading.{message_in}
 use Rattle.fc_element.specs.declared.input.ElIn.TheVariants.{Arrived}
-use Rattle.fc_element.specs.ElementMachine.{Turn, step}
+use Rattle.fc_element.specs.ElementMachine.{step}
 use Rattle.fc_element.specs.ElementState.{ElementState}
-use Rattle.fc_tool.specs.ElementNode.{Heard, by_message, cut_of, first_heard, frames, heard, hears, rest, sent}
+use Rattle.fc_tool.specs.ElementNode.{Heard, by_message, first_heard, frames, heard, hears, rest, sent}
 use Rattle.fc_tool.proofs.Cut.{cut_partial, cut_whole}
 
 -- acts that were done before

@@ -1,5 +1,6 @@
 pub mod Acts
 pub mod Bytes
+pub mod Commands
 pub mod Cut
 pub mod Hearing
 pub mod Holding

@@ -1,6 +1,5 @@
 -- Peers by their numbers and by their places.
-use Rattle.std.proofs.Common.{◌≡◌, ◌≤◌, ◌<◌, ◌+◌, ◌-◌, ◌==◌, ℕ, suc, length-append, List, [], ◌∷◌, ◌++◌, length, take, drop, get_or, slice_get, slice_set, true, false, Bool, refl, sym, ap, ◌∙◌, arith, Option, Some, None, is_some, if◌then◌else◌}
-use Rattle.std.specs.List.{AllByRecursion}
+use Rattle.std.proofs.Common.{◌≡◌, ◌<◌, ◌+◌, ◌-◌, ◌==◌, ℕ, suc, length-append, List, [], ◌∷◌, ◌++◌, length, take, drop, get_or, slice_get, slice_set, true, false, Bool, refl, sym, ap, ◌∙◌, arith, Some, None}
 use Rattle.std.proofs.lemmas.Bool.Decides.{nat_tests}
 use Rattle.std.proofs.Math.Seq.{get_or-append_seam, set-append_seam}
 use Rattle.std.proofs.lemmas.List.{drop_more, length-take-le, take-append-drop, take_more}

@@ -62,7 +62,7 @@ pub reaches_length : (bytes : List ℕ) (hs : List Header) (rest : List ℕ) →
 reaches_length bytes hs rest there = omega (arith, ap length there.whole, length-append (joined there.frames) rest)
 
 -- the writing had not begun on what comes next
-stops_here : (at_end : Type 0) (place : ℕ) (bytes : List ℕ) (hs : List Header) (rest : List ℕ) (old new : Option (List ℕ)) → Reaches bytes hs rest
+pub stops_here : (at_end : Type 0) (place : ℕ) (bytes : List ℕ) (hs : List Header) (rest : List ℕ) (old new : Option (List ℕ)) → Reaches bytes hs rest
     → Appends old new (text_of hs) → StoppedAt at_end place bytes old new
 stops_here at_end place bytes hs rest old new there lines = (hs, rest, [], there, inl refl, (text_of hs, [], refl, lines))
 

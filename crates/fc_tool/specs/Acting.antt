@@ -1,6 +1,6 @@
 -- What a hub holds after acts and events: the acts stand behind those that were done, each with the number of events that
 -- were taken before it. This profile's own.
-use Rattle.std.specs.Prelude.{◌≡◌, ◌≢◌, ◌⊎◌, ℕ, ◌<◌, ◌+◌, List, [], ◌∷◌, ◌++◌, length, map, ⊤, Option, Some, None, Result, Ok, Err, option_map}
+use Rattle.std.specs.Prelude.{◌≡◌, ◌⊎◌, ℕ, ◌<◌, ◌+◌, List, ◌∷◌, ◌++◌, length, ⊤, Option, Some, None, Result, Ok, Err, option_map}
 use Rattle.fc_base.specs.Causes.{Rose}
 use Rattle.fc_hub.specs.Hubs.{Held, holds}
 use Rattle.fc_hub.specs.declared.event.HubEvent.{HubEvent}

@@ -1,8 +1,7 @@
 -- What stands first among the bytes of a peer: less than a frame, a message, or a frame that is none; and what is left.
 -- This profile's own.
-use Rattle.std.specs.Prelude.{◌≡◌, ◌≤◌, ◌<◌, ℕ, List, length, take, drop, Option, Some, None}
+use Rattle.std.specs.Prelude.{◌≡◌, ◌≤◌, ◌<◌, ℕ, List, length, take, drop, Some, None}
 use Rattle.fc_wire.specs.Frames.{frame_len}
-use Rattle.fc_msg.specs.declared.message.Message.{Message}
 use Rattle.fc_msg.specs.Reading.{message_in}
 use Rattle.fc_tool.specs.declared.delivery.Next.{Next}
 use Rattle.fc_tool.specs.declared.delivery.Next.TheVariants as next

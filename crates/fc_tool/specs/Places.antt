@@ -1,5 +1,5 @@
 -- Where a peer stands among those that are open: the first place with its number.
-use Rattle.std.specs.Prelude.{◌≡◌, ℕ, ◌==◌, false, List, [], ◌∷◌, ◌++◌, length}
+use Rattle.std.specs.Prelude.{◌≡◌, ℕ, ◌==◌, false, List, ◌∷◌, ◌++◌, length}
 use Rattle.std.specs.List.{AllByRecursion}
 use Rattle.fc_tool.specs.declared.peers.Peer.{Peer}
 

@@ -1,17 +1,10 @@
 -- What the words of a command line mean. This profile's own.
-use Rattle.std.specs.Prelude.{◌≡◌, ℕ, List, [], ◌∷◌, codes, String, string_bytes, Option, Result, Ok, Err}
-use Rattle.std.specs.declared.alloc.Global.{Global}
+use Rattle.std.specs.Prelude.{ℕ, List, Option, Result, Ok, Err}
 use Rattle.std.specs.Io.KnownBytes.{Appends}
 use Rattle.fc_base.specs.Content.{AppendsFront}
 use Rattle.fc_tool.specs.declared.stops.Stop.{Stop}
 use Rattle.fc_tool.specs.Stops.{stop_status}
 use Rattle.fc_tool.specs.Text.{usage_text}
-
--- the words are the one word `show`
-abbrev pub IsShow : List (String Global) → Type 0
-IsShow [] = ⊥
-IsShow (word ∷ []) = string_bytes word ≡ codes "show"
-IsShow (word ∷ other ∷ words) = ⊥
 
 -- what is written where the words are no command
 abbrev pub UsageEnds : Result (Unit {0}) Stop → Option (List ℕ) → Option (List ℕ) → Type 0

@@ -1,57 +1,89 @@
 // The top call of the program.
-ghost use Rattle.std.specs.Prelude.{◌≡◌, ◌≢◌, ◌↔◌, ◌⊎◌, IsTrue, Result};
+ghost use Rattle.std.specs.Prelude.{◌≡◌, ◌≢◌, ◌⊎◌, ◌+◌, ℕ, List, None, Some, Result, map, string_bytes};
 ghost use Rattle.fc_base.specs.Causes.{Rose};
 ghost use Rattle.fc_base.specs.Content.{IsFlushed};
+ghost use Rattle.fc_words.specs.Commands.{command_of};
+ghost use Rattle.fc_words.specs.declared.commands.Command.TheVariants as meant;
+ghost use Rattle.fc_tool.specs.declared.element.ElementEnd.{ElementEnd};
 ghost use Rattle.fc_tool.specs.declared.show.Shown.{Shown};
 ghost use Rattle.fc_tool.specs.declared.stops.Stop.{Stop};
-ghost use Rattle.fc_tool.specs.Run.{IsShow, UsageEnds, usage_status};
+ghost use Rattle.fc_tool.specs.ElementRun.{ElementEnds, element_status};
+ghost use Rattle.fc_tool.specs.Run.{UsageEnds, usage_status};
 ghost use Rattle.fc_tool.specs.Show.{ShowEnds, status_of};
 ghost use Rattle.fc_tool.specs.Stops.{FlushedAt, SinkCount};
 
+use crate::element::{ElementEnd, element};
 use crate::input::LIMIT;
 use crate::show::{Shown, show};
-use crate::status::{DONE, NO_COMMAND, NO_MEMORY, NO_MESSAGE, READ_FAULT, TOO_LONG, WRITE_FAULT};
+use crate::status::{
+    DONE, HUB_FAULT, NO_COMMAND, NO_MEMORY, NO_MESSAGE, READ_FAULT, REFUSED, TOO_LONG, TURNS,
+    WRITE_FAULT,
+};
 use crate::stops::{Stop, finish, put};
 use fc_base::{Sink, Source};
+use fc_hub::Hub;
+use fc_words::{Command, WordFault, command};
 use std::alloc::Global;
 
 /// Does what the words say, and gives the status of the program.
-pub fn run<S: Source, K: Sink>(alloc: Global, words: &[String], input: &mut S, out: &mut K) -> u8
+pub fn run<S: Source, K: Sink, H: Hub>(
+    alloc: Global,
+    words: &[String],
+    input: &mut S,
+    out: &mut K,
+    hub: &mut H,
+) -> u8
     // The status is 1 exactly where the words are no command, unless the line can't be written; then nothing is read.
-    ensures no_command { result ≡ NO_COMMAND → IsShow words.now → ⊥ }
-    ensures usage { (IsShow words.now → ⊥) → (how : Result (Unit {0}) Stop) × (result ≡ usage_status how) × UsageEnds how (K.written out.old) (K.written out.new) }
-    ensures unread { (IsShow words.now → ⊥) → input.new ≡ input.old }
+    ensures no_command { result ≡ NO_COMMAND → command_of (map string_bytes words.now) ≡ None }
+    ensures usage { command_of (map string_bytes words.now) ≡ None
+        → (how : Result (Unit {0}) Stop) × (result ≡ usage_status how) × UsageEnds how (K.written out.old) (K.written out.new) }
+    ensures unread { command_of (map string_bytes words.now) ≡ None → input.new ≡ input.old }
 
     // What was read, what was written of it, and the status, for `show`.
-    ensures show { IsShow words.now → (how : Result Shown Stop) × (result ≡ status_of how)
+    ensures show { command_of (map string_bytes words.now) ≡ Some meant.Show → (how : Result Shown Stop) × (result ≡ status_of how)
         × ShowEnds LIMIT how (S.left input.old) (S.left input.new) (K.written out.old) (K.written out.new) }
 
-    // A fault of reading or of writing comes only where the count rose.
+    // What was read, done on the hub and written, and the status, for `element`.
+    ensures element { (fe ce : ℕ) (address : List ℕ) (connections turns : ℕ)
+        → command_of (map string_bytes words.now) ≡ Some (meant.Element fe ce address connections turns)
+        → (how : Result ElementEnd Stop) × (result ≡ element_status how)
+        × ElementEnds LIMIT fe ce turns how (S.left input.old) (S.left input.new) (H.held hub.old) (H.held hub.new) (K.written out.old) (K.written out.new) }
+
+    // Only `element` uses the hub.
+    ensures hub { ((fe ce : ℕ) (address : List ℕ) (connections turns : ℕ)
+        → command_of (map string_bytes words.now) ≡ Some (meant.Element fe ce address connections turns) → ⊥) → hub.new ≡ hub.old }
+
+    // A fault of reading, of writing or of the hub comes only where the count rose.
     ensures read_fault { result ≡ READ_FAULT → Rose (S.faults input.old) (S.faults input.new) }
     ensures write_fault { result ≡ WRITE_FAULT → Rose (K.faults out.old) (K.faults out.new) }
+    ensures hub_fault { result ≡ HUB_FAULT → Rose (H.faults hub.old) (H.faults hub.new) }
     ensures source_steady { result ≢ READ_FAULT → result ≢ WRITE_FAULT → result ≢ NO_MEMORY → S.faults input.new ≡ S.faults input.old }
     ensures sink_steady { result ≢ WRITE_FAULT → K.faults out.new ≡ K.faults out.old }
+    ensures hub_steady { result ≢ HUB_FAULT → result ≢ WRITE_FAULT → result ≢ NO_MEMORY → H.faults hub.new ≡ H.faults hub.old }
 
-    // Where no count rose, the input alone decides, or there was no memory.
-    ensures complete { IsShow words.now → (Rose (S.faults input.old) (S.faults input.new) → ⊥) → (Rose (K.faults out.old) (K.faults out.new) → ⊥)
+    // Where no count rose, the input alone decides, or there was no memory; for `element`, the input and the events.
+    ensures complete { command_of (map string_bytes words.now) ≡ Some meant.Show
+        → (Rose (S.faults input.old) (S.faults input.new) → ⊥) → (Rose (K.faults out.old) (K.faults out.new) → ⊥)
         → (result ≡ DONE) ⊎ ((result ≡ NO_MESSAGE) ⊎ ((result ≡ TOO_LONG) ⊎ (result ≡ NO_MEMORY))) }
+    ensures element_complete { (fe ce : ℕ) (address : List ℕ) (connections turns : ℕ)
+        → command_of (map string_bytes words.now) ≡ Some (meant.Element fe ce address connections turns)
+        → (Rose (S.faults input.old) (S.faults input.new) → ⊥) → (Rose (K.faults out.old) (K.faults out.new) → ⊥)
+        → (Rose (H.faults hub.old) (H.faults hub.new) → ⊥)
+        → (result ≡ DONE) ⊎ ((result ≡ TURNS) ⊎ ((result ≡ REFUSED) ⊎ ((result ≡ TOO_LONG) ⊎ (result ≡ NO_MEMORY)))) }
 
     // All that was written is flushed.
     ensures flushed { result ≢ WRITE_FAULT → result ≢ NO_MEMORY → IsFlushed (K.written out.new) (K.flushed out.new) }
 {
-    if is_show(words) {
-        show_status(show(alloc, input, out))
-    } else {
-        usage_status(usage(out))
-    }
-}
-
-fn is_show(words: &[String]) -> bool
-    ensures { IsTrue result ↔ IsShow words.now }
-{
-    match words {
-        [word] => word.as_str() == "show",
-        _ => false,
+    let meant = match command(alloc, words) {
+        Ok(meant) => meant,
+        Err(WordFault::NoCommand) => return usage_status(usage(out)),
+        Err(WordFault::Memory) => return NO_MEMORY,
+    };
+    match meant {
+        Command::Show => show_status(show(alloc, input, out)),
+        Command::Element { fe, ce, turns, .. } => {
+            element_status(element(alloc, fe, ce, turns, input, out, hub))
+        }
     }
 }
 
@@ -82,6 +114,21 @@ fn show_status(how: Result<Shown, Stop>) -> u8
         Ok(Shown::ReadFault) => READ_FAULT,
         Ok(Shown::Refused) => NO_MESSAGE,
         Ok(Shown::TooLong) => TOO_LONG,
+        Err(Stop::WriteFault) => WRITE_FAULT,
+        Err(Stop::NoMemory) => NO_MEMORY,
+    }
+}
+
+fn element_status(how: Result<ElementEnd, Stop>) -> u8
+    ensures { result ≡ element_status how }
+{
+    match how {
+        Ok(ElementEnd::Done) => DONE,
+        Ok(ElementEnd::ReadFault) => READ_FAULT,
+        Ok(ElementEnd::HubFault) => HUB_FAULT,
+        Ok(ElementEnd::Refused) => REFUSED,
+        Ok(ElementEnd::Turns) => TURNS,
+        Ok(ElementEnd::TooLong) => TOO_LONG,
         Err(Stop::WriteFault) => WRITE_FAULT,
         Err(Stop::NoMemory) => NO_MEMORY,
     }

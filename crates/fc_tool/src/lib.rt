@@ -22,6 +22,7 @@ mod stops;
 mod tests;
 
 pub use command::run;
+pub use element::ElementEnd;
 pub use faults::{Fault, Reason};
 pub use laws::{any_pieces, frame_is_judged_once, input_ends_once, text_is_unique};
 pub use show::Shown;

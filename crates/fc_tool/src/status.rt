@@ -1,6 +1,6 @@
 // The statuses of the program.
 
-/// The input was read to its end, and all was written.
+/// The input was read to its end, or the hub had no more events, and all was written.
 pub const DONE: u8 = 0;
 
 /// The words are no command.
@@ -12,11 +12,20 @@ pub const READ_FAULT: u8 = 2;
 /// The output can't be written.
 pub const WRITE_FAULT: u8 = 3;
 
+/// The hub failed.
+pub const HUB_FAULT: u8 = 4;
+
+/// The input is no library that is taken.
+pub const REFUSED: u8 = 5;
+
 /// The input has a frame that is no message, or ends within a frame.
 pub const NO_MESSAGE: u8 = 6;
 
 /// There was no memory.
 pub const NO_MEMORY: u8 = 9;
+
+/// So many events were taken as are to be taken.
+pub const TURNS: u8 = 10;
 
 /// The input is longer than is read.
 pub const TOO_LONG: u8 = 12;

@@ -2,7 +2,7 @@
 use Rattle.std.proofs.Common.{◌≡◌, length, map, string_bytes, String, Global, IsSome, if◌then◌else◌, ℕ, ◌&&◌, not, Bool, true, false, List, [], ◌∷◌, Option, Some, None, codes, fold, refl, ap, ◌∙◌, arith}
 use Rattle.std.proofs.lemmas.Bool.{and_parts}
 use Rattle.clap.specs.Walk.{Held, Rule, Text, Waiting, Walk, idle, option, positional, value, arg_by_index, finished, first_of, nothing_held, is_multiple, to_positional, walk_from, walked, word_met}
-use Rattle.clap.specs.Simple.{Shape, built, is_simple, matches_of}
+use Rattle.clap.specs.Simple.{Shape, built, matches_of}
 use Rattle.clap.specs.Takes.{takes, step_passes, turn_passes, walk_passes, word_passes}
 use Rattle.clap.proofs.OnLiterals.{clap_on_literals}
 use Rattle.std.proofs.lemmas.List.{length-map}
@@ -111,9 +111,6 @@ element_taken fe ce address connections turns h =
     let walked_so = straight_walk element_shape.rules words (walk_from nothing_held) start_is h in
     let passes_so = walk_is element_shape words (walk_from nothing_held) start_is h in
     rw (passes_so, walked_so)
-
-pub element_simple : is_simple element_app ≡ true
-element_simple = refl
 
 -- the words by the names of the positionals
 pub record Named (f : Found) (words : List Text) : Type 0 where

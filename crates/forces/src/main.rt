@@ -1,8 +1,10 @@
-//! `forces`: forwarding and control elements of one router, over standard input and output.
+//! `forces`: forwarding and control elements of one router, over standard input and output and TCP.
 #![tactic(auto)]
 
-use fc_base::{StdSink, StdSource};
+use fc_base::{Memory, StdSink, StdSource};
+use fc_hub::TcpHub;
 use fc_tool::run;
+use fc_words::{Command, WordFault, command};
 use std::alloc::{AllocError, Global};
 use std::process::ExitCode;
 use std::rt::Env;
@@ -21,12 +23,42 @@ fn words(alloc: Global, rt: &(impl Env + AllocGlobal)) -> Result<Vec<String>, Al
     Ok(words)
 }
 
+// The hub that the words ask for. Where they ask for none, it is never called.
+fn hub<'a>(
+    alloc: Global,
+    rt: &'a HostRuntime,
+    words: &[String],
+) -> Result<TcpHub<&'a HostRuntime>, Memory> {
+    let meant = match command(alloc, words) {
+        Ok(meant) => meant,
+        Err(WordFault::NoCommand) => return TcpHub::listen(alloc, rt, "", 1),
+        Err(WordFault::Memory) => return Err(Memory),
+    };
+    match &meant {
+        Command::Show => TcpHub::listen(alloc, rt, "", 1),
+        Command::Element {
+            address,
+            connections,
+            ..
+        } => TcpHub::listen(alloc, rt, address.as_str(), *connections),
+    }
+}
+
 fn main(rt: HostRuntime) -> ExitCode {
     let alloc = rt.alloc();
     let Ok(words) = words(alloc, &rt) else {
         return ExitCode::from(NO_MEMORY);
     };
+    let Ok(mut hub) = hub(alloc, &rt, words.as_slice()) else {
+        return ExitCode::from(NO_MEMORY);
+    };
     let mut input = StdSource::new(rt.reader());
     let mut out = StdSink::new(io::writer(&rt));
-    ExitCode::from(run(alloc, words.as_slice(), &mut input, &mut out))
+    ExitCode::from(run(
+        alloc,
+        words.as_slice(),
+        &mut input,
+        &mut out,
+        &mut hub,
+    ))
 }

@@ -1,4 +1,4 @@
-use Rattle.std.proofs.Common.{◌≡◌, ◌∙◌, sym, ap, ◌++◌, ◌∷◌, [], refl, drop, length, arith}
+use Rattle.std.proofs.Common.{◌∙◌, sym, ap, ◌++◌, ◌∷◌, [], refl, drop, length, arith}
 use Rattle.std.proofs.lemmas.List.{length-drop}
 use Rattle.fc_wire.specs.Frames.{frame_len}
 use Rattle.fc_element.specs.declared.input.ElIn.TheVariants.{Arrived}

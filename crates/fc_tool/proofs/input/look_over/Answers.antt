@@ -1,4 +1,4 @@
-use Rattle.std.proofs.Common.{◌≡◌, [], ◌++◌, length, drop, refl, ap, ◌∙◌, length-append, arith}
+use Rattle.std.proofs.Common.{◌++◌, ◌∙◌, length-append, arith}
 use Rattle.std.proofs.KnownBytes.{Consumes-trans}
 use Rattle.fc_tool.proofs.Looking.{all_dropped, long_looked}
 use Rattle.fc_tool.proofs.input.look_over.Goals as goal

@@ -1,4 +1,4 @@
-use Rattle.fc_tool.proofs.OpenPeers.{nowhere_more, stands}
+use Rattle.fc_tool.proofs.OpenPeers.{stands}
 use Rattle.fc_tool.proofs.peers.place_of.Goals as goal
 
 pub returns-then-peer-number-clause-some : goal.returns-then-peer-number-clause-some

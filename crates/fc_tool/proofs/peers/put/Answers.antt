@@ -1,5 +1,5 @@
-use Rattle.std.proofs.Common.{ap, sym, ◌∙◌, refl, Some, length}
-use Rattle.fc_tool.proofs.OpenPeers.{left_is, left_nowhere, peer_at, place_within, put_is, put_length, put_nowhere}
+use Rattle.std.proofs.Common.{ap, sym, ◌∙◌, Some, length}
+use Rattle.fc_tool.proofs.OpenPeers.{left_is, left_nowhere, peer_at, put_is, put_length, put_nowhere}
 use Rattle.fc_tool.proofs.peers.put.Goals as goal
 
 pub returns-in-Some-clause-left : goal.returns-in-Some-clause-left

@@ -1,5 +1,5 @@
-use Rattle.std.proofs.Common.{ap, sym, ◌∙◌, is_some, refl}
-use Rattle.fc_tool.proofs.OpenPeers.{left_is, left_nowhere, place_within, without_is, without_nowhere}
+use Rattle.std.proofs.Common.{ap, sym, ◌∙◌, is_some}
+use Rattle.fc_tool.proofs.OpenPeers.{left_is, left_nowhere, without_is, without_nowhere}
 use Rattle.fc_tool.proofs.peers.remove.Goals as goal
 
 pub returns-in-Some-clause-open : goal.returns-in-Some-clause-open

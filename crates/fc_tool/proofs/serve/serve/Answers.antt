@@ -1,7 +1,7 @@
-use Rattle.std.proofs.Common.{◌≡◌, ◌≢◌, ◌∙◌, sym, ap, refl, [], ◌∷◌, ◌++◌, ◌+◌, length-append, arith, inl, inr}
+use Rattle.std.proofs.Common.{◌≢◌, ◌∙◌, sym, ap, refl, [], ◌∷◌, ◌++◌, ◌+◌, length-append}
 use Rattle.fc_hub.specs.declared.event.HubEvent.TheVariants.{Over}
 use Rattle.fc_tool.specs.ElementNode.{node, node_step}
-use Rattle.fc_tool.proofs.Serving.{after_more, at_over, took, went_into, went_kept, went_more, went_none}
+use Rattle.fc_tool.proofs.Serving.{after_more, took, went_more, went_none}
 use Rattle.fc_tool.proofs.serve.serve.Goals as goal
 
 pub turns-init : goal.turns-init
