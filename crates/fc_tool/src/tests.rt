@@ -2,7 +2,8 @@ ghost use Rattle.std.specs.Prelude.{ℕ, None};
 
 use crate::run;
 use crate::splitter::Splitter;
-use fc_base::{MemSink, MemSource, Sink, Source, SureSink, SureSource, Trouble};
+use fc_base::{MemSink, MemSource, Octets, Sink, Source, SureSink, SureSource, Trouble};
+use fc_hub::{Act, HubEvent, MemHub, SureHub};
 use std::alloc::Global;
 use std::test::Fail;
 
@@ -37,12 +38,23 @@ fn lines(alloc: Global, count: usize, last: &str) -> Result<String, Fail> {
     Ok(text)
 }
 
+// Runs the program over a hub without events.
+fn run_without_hub<S: Source, K: Sink>(
+    alloc: Global,
+    words: &[String],
+    input: &mut S,
+    out: &mut K,
+) -> u8 {
+    let mut hub = SureHub::new(alloc, Vec::new(alloc));
+    run(alloc, words, input, out, &mut hub)
+}
+
 // The status of `show` over these bytes in pieces, and what it wrote.
 fn shown(alloc: Global, bytes: Vec<u8>, piece: usize) -> Result<(u8, Vec<u8>), Fail> {
     let words = words(alloc, "show")?;
     let mut input = SureSource::new(bytes, piece.max(1));
     let mut out = SureSink::new(alloc);
-    let status = run(alloc, words.as_slice(), &mut input, &mut out);
+    let status = run_without_hub(alloc, words.as_slice(), &mut input, &mut out);
     Ok((status, Vec::from_slice(alloc, out.bytes())?))
 }
 
@@ -85,12 +97,20 @@ fn every_field_is_shown(rt: HostRuntime) -> Result<(), Fail> {
 #[test]
 fn other_words_are_no_command(rt: HostRuntime) -> Result<(), Fail> {
     let alloc = rt.alloc();
-    for line in ["", "frob", "show x", "Show", "-show", "--help"] {
+    for line in [
+        "",
+        "frob",
+        "show x",
+        "Show",
+        "-show",
+        "--help",
+        "element 2 40000001 a 1",
+    ] {
         let words = words(alloc, line)?;
         let mut input = SureSource::new(beats(alloc, 1)?, 24);
         let mut out = SureSink::new(alloc);
         assert_eq!(rt;
-            run(alloc, words.as_slice(), &mut input, &mut out),
+            run_without_hub(alloc, words.as_slice(), &mut input, &mut out),
             1,
             "{line}"
         );
@@ -99,7 +119,10 @@ fn other_words_are_no_command(rt: HostRuntime) -> Result<(), Fail> {
     let mut input = SureSource::new(Vec::new(alloc), 1);
     let mut out = SureSink::new(alloc);
     let none: Vec<String> = Vec::new(alloc);
-    assert_eq!(rt; run(alloc, none.as_slice(), &mut input, &mut out), 1);
+    assert_eq!(rt;
+        run_without_hub(alloc, none.as_slice(), &mut input, &mut out),
+        1
+    );
     assert_eq!(rt; out.bytes(), b"usage\n".as_slice());
     Ok(())
 }
@@ -152,7 +175,7 @@ fn each_call_of_the_sink_fails_in_turn(rt: HostRuntime) -> Result<(), Fail> {
         failing.push(call)?;
         let mut input = SureSource::new(beats(alloc, 3)?, 24);
         let mut out = MemSink::new(alloc, failing);
-        let status = run(alloc, words.as_slice(), &mut input, &mut out);
+        let status = run_without_hub(alloc, words.as_slice(), &mut input, &mut out);
         assert_eq!(rt; status, if call < 5 { 3 } else { 0 }, "at {call}");
         let whole = if call < 4 { call.saturating_sub(1) } else { 3 };
         assert_eq!(rt;
@@ -174,7 +197,7 @@ fn each_call_of_the_source_fails_in_turn(rt: HostRuntime) -> Result<(), Fail> {
         failing.push(call)?;
         let mut input = MemSource::new(beats(alloc, 3)?, 24, failing);
         let mut out = SureSink::new(alloc);
-        let status = run(alloc, words.as_slice(), &mut input, &mut out);
+        let status = run_without_hub(alloc, words.as_slice(), &mut input, &mut out);
         assert_eq!(rt; status, if call < 5 { 2 } else { 0 }, "at {call}");
         let whole = if call < 4 { call.saturating_sub(1) } else { 3 };
         assert_eq!(rt;
@@ -258,7 +281,10 @@ fn so_many_bytes_are_looked_at_and_no_more(rt: HostRuntime) -> Result<(), Fail> 
             writes: 0,
             last: Vec::new(alloc),
         };
-        assert_eq!(rt; run(alloc, words.as_slice(), &mut input, &mut out), status);
+        assert_eq!(rt;
+            run_without_hub(alloc, words.as_slice(), &mut input, &mut out),
+            status
+        );
         let refusal = if status == 6 { last.len() as u64 } else { 0 };
         assert_eq!(rt; out.bytes, 204_122_746u64.saturating_add(refusal));
         assert!(rt;
@@ -288,5 +314,198 @@ fn a_splitter_lends_the_frames_of_the_stream(rt: HostRuntime) -> Result<(), Fail
     splitter.feed(&bytes[47..])?;
     assert_eq!(rt; splitter.next().ok_or("a frame")?, BEAT.as_slice());
     assert_eq!(rt; splitter.rest().len(), 0);
+    Ok(())
+}
+
+const SETUP: [u8; 24] = [
+    0x10, 0x01, 0, 6, 0, 0, 0, 2, 0xff, 0xff, 0xff, 0xfd, 0, 0, 0, 0, 0, 0, 0, 0, 0xc0, 0, 0, 0,
+];
+
+const ACCEPTED: [u8; 32] = [
+    0x10, 0x11, 0, 8, 0x40, 0, 0, 1, 0, 0, 0, 2, 0, 0, 0, 0, 0, 0, 0, 0, 0, 0, 0, 0, 0, 0x10, 0, 8,
+    0, 0, 0, 0,
+];
+
+const ASKING: [u8; 24] = [
+    0x10, 0x0f, 0, 6, 0x40, 0, 0, 1, 0, 0, 0, 2, 0, 0, 0, 0, 0, 0, 0, 0, 0xc0, 0, 0, 0,
+];
+
+const ANSWER: [u8; 24] = [
+    0x10, 0x0f, 0, 6, 0, 0, 0, 2, 0x40, 0, 0, 1, 0, 0, 0, 0, 0, 0, 0, 0, 0, 0, 0, 0,
+];
+
+const REPORT: &str = "element 2 epoch 0 ce 40000001 sequence 0\n";
+
+fn bytes_event(alloc: Global, peer: u32, bytes: &[u8]) -> Result<HubEvent, Fail> {
+    Ok(HubEvent::Bytes(peer, Octets::from_slice(alloc, bytes)?))
+}
+
+// A connection opens, the association is accepted, and a heartbeat asks for an answer.
+fn greeting(alloc: Global) -> Result<Vec<HubEvent>, Fail> {
+    let mut events = Vec::new(alloc);
+    events.push(HubEvent::Opened(1))?;
+    events.push(bytes_event(alloc, 1, &ACCEPTED)?)?;
+    events.push(bytes_event(alloc, 1, &ASKING)?)?;
+    Ok(events)
+}
+
+// The status of an element over these events, what it wrote, and its hub.
+fn ran(
+    alloc: Global,
+    line: &str,
+    input: Vec<u8>,
+    events: Vec<HubEvent>,
+) -> Result<(u8, Vec<u8>, SureHub), Fail> {
+    let words = words(alloc, line)?;
+    let mut input = SureSource::new(input, 4096);
+    let mut out = SureSink::new(alloc);
+    let mut hub = SureHub::new(alloc, events);
+    let status = run(alloc, words.as_slice(), &mut input, &mut out, &mut hub);
+    Ok((status, Vec::from_slice(alloc, out.bytes())?, hub))
+}
+
+fn sent(alloc: Global, taken: u64, peer: u32, bytes: &[u8]) -> Result<(u64, Act), Fail> {
+    Ok((taken, Act::Sent(peer, Octets::from_slice(alloc, bytes)?)))
+}
+
+#[test]
+fn an_element_answers_the_heartbeat_of_its_controller(rt: HostRuntime) -> Result<(), Fail> {
+    let alloc = rt.alloc();
+    let none = Vec::new(alloc);
+    let (status, text, hub) = ran(alloc, "element 2 40000001 a 1 9", none, greeting(alloc)?)?;
+    assert_eq!(rt; status, 0);
+    assert_eq!(rt; text.as_slice(), REPORT.as_bytes());
+    let mut wanted = Vec::new(alloc);
+    wanted.push(sent(alloc, 1, 1, &SETUP)?)?;
+    wanted.push(sent(alloc, 3, 1, &ANSWER)?)?;
+    assert_eq!(rt; hub.acts(), wanted.as_slice());
+    Ok(())
+}
+
+#[test]
+fn an_element_without_an_association_answers_no_heartbeat(rt: HostRuntime) -> Result<(), Fail> {
+    let alloc = rt.alloc();
+    let mut events = Vec::new(alloc);
+    events.push(HubEvent::Opened(1))?;
+    events.push(bytes_event(alloc, 1, &ASKING)?)?;
+    let (status, text, hub) = ran(alloc, "element 2 40000001 a 1 9", Vec::new(alloc), events)?;
+    assert_eq!(rt; status, 0);
+    assert_eq!(rt; text.as_slice(), REPORT.as_bytes());
+    let mut wanted = Vec::new(alloc);
+    wanted.push(sent(alloc, 1, 1, &SETUP)?)?;
+    assert_eq!(rt; hub.acts(), wanted.as_slice());
+    Ok(())
+}
+
+#[test]
+fn an_element_takes_no_more_events_than_it_is_to_take(rt: HostRuntime) -> Result<(), Fail> {
+    let alloc = rt.alloc();
+    let mut events = Vec::new(alloc);
+    events.push(HubEvent::Opened(1))?;
+    events.push(HubEvent::Closed(1))?;
+    events.push(HubEvent::Opened(2))?;
+    let none = Vec::new(alloc);
+    let (status, text, hub) = ran(alloc, "element 2 40000001 a 1 2", none, events)?;
+    assert_eq!(rt; status, 10);
+    assert_eq!(rt; text.as_slice(), REPORT.as_bytes());
+    let mut wanted = Vec::new(alloc);
+    wanted.push(sent(alloc, 1, 1, &SETUP)?)?;
+    assert_eq!(rt; hub.acts(), wanted.as_slice());
+    Ok(())
+}
+
+#[test]
+fn a_library_is_refused_and_nothing_is_done(rt: HostRuntime) -> Result<(), Fail> {
+    let alloc = rt.alloc();
+    let mut input = Vec::new(alloc);
+    input.push(b'<')?;
+    let (status, text, hub) = ran(alloc, "element 2 40000001 a 1 9", input, greeting(alloc)?)?;
+    assert_eq!(rt; status, 5);
+    assert_eq!(rt; text.as_slice(), b"refused library notbuilt\n".as_slice());
+    assert_eq!(rt; hub.acts().len(), 0);
+    Ok(())
+}
+
+#[test]
+fn bytes_that_are_cut_anywhere_are_answered_alike(rt: HostRuntime) -> Result<(), Fail> {
+    let alloc = rt.alloc();
+    let mut both = Vec::new(alloc);
+    both.extend_from_slice(&ACCEPTED)?;
+    both.extend_from_slice(&ASKING)?;
+    for cut in 1..both.len() {
+        let mut events = Vec::new(alloc);
+        events.push(HubEvent::Opened(1))?;
+        events.push(bytes_event(alloc, 1, &both[..cut])?)?;
+        events.push(bytes_event(alloc, 1, &both[cut..])?)?;
+        let none = Vec::new(alloc);
+        let (status, text, hub) = ran(alloc, "element 2 40000001 a 1 9", none, events)?;
+        assert_eq!(rt; status, 0, "cut at {cut}");
+        assert_eq!(rt; text.as_slice(), REPORT.as_bytes(), "cut at {cut}");
+        let mut wanted = Vec::new(alloc);
+        wanted.push(sent(alloc, 1, 1, &SETUP)?)?;
+        wanted.push(sent(alloc, 3, 1, &ANSWER)?)?;
+        assert_eq!(rt; hub.acts(), wanted.as_slice(), "cut at {cut}");
+    }
+    Ok(())
+}
+
+#[test]
+fn a_peer_that_sends_no_message_is_closed_and_read_no_more(rt: HostRuntime) -> Result<(), Fail> {
+    let alloc = rt.alloc();
+    let mut events = Vec::new(alloc);
+    events.push(HubEvent::Opened(1))?;
+    events.push(bytes_event(alloc, 1, &[0u8; 24])?)?;
+    events.push(bytes_event(alloc, 1, &ACCEPTED)?)?;
+    events.push(bytes_event(alloc, 1, &ASKING)?)?;
+    events.push(HubEvent::Opened(1))?;
+    let none = Vec::new(alloc);
+    let (status, _, hub) = ran(alloc, "element 2 40000001 a 2 9", none, events)?;
+    assert_eq!(rt; status, 0);
+    let mut wanted = Vec::new(alloc);
+    wanted.push(sent(alloc, 1, 1, &SETUP)?)?;
+    wanted.push((2u64, Act::Shut(1)))?;
+    wanted.push(sent(alloc, 5, 1, &SETUP)?)?;
+    assert_eq!(rt; hub.acts(), wanted.as_slice());
+    Ok(())
+}
+
+#[test]
+fn a_peer_beyond_the_sixty_fourth_is_closed(rt: HostRuntime) -> Result<(), Fail> {
+    let alloc = rt.alloc();
+    let mut events = Vec::new(alloc);
+    for peer in 1u32..66 {
+        events.push(HubEvent::Opened(peer))?;
+    }
+    let none = Vec::new(alloc);
+    let (status, _, hub) = ran(alloc, "element 2 40000001 a 9 99", none, events)?;
+    assert_eq!(rt; status, 0);
+    assert_eq!(rt; hub.acts().len(), 65);
+    assert_eq!(rt; hub.acts().last().ok_or("an act")?, &(65u64, Act::Shut(65)));
+    Ok(())
+}
+
+#[test]
+fn each_call_of_the_hub_fails_in_turn(rt: HostRuntime) -> Result<(), Fail> {
+    let alloc = rt.alloc();
+    let words = words(alloc, "element 2 40000001 a 1 9")?;
+    // An event, the setup, an event, an event, the answer and the end are six calls.
+    for call in 1u64..8 {
+        let mut failing = Vec::new(alloc);
+        failing.push(call)?;
+        let mut input = SureSource::new(Vec::new(alloc), 1);
+        let mut out = SureSink::new(alloc);
+        let mut hub = MemHub::new(alloc, greeting(alloc)?, failing);
+        let status = run(alloc, words.as_slice(), &mut input, &mut out, &mut hub);
+        assert_eq!(rt; status, if call < 7 { 4 } else { 0 }, "at {call}");
+        let done = if call < 3 {
+            0
+        } else if call < 6 {
+            1
+        } else {
+            2
+        };
+        assert_eq!(rt; hub.acts().len(), done, "at {call}");
+        assert_eq!(rt; out.bytes().is_empty(), call < 7, "at {call}");
+    }
     Ok(())
 }

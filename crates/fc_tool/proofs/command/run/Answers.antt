@@ -14,14 +14,14 @@ returns-in-Err-Memory-clause-element g c fe ce address connections turns is = el
 
 pub returns-clause-show : goal.returns-clause-show
 returns-clause-show g c is = elim c.match-meant.branch [
-    in-Show w ↦ (w.show.result, w.result-is ∙ w.show_status.ensures, rw (w.input-is, w.out-is) w.show.ensures.ends)
+  | in-Show w ↦ (w.show.result, w.result-is ∙ w.show_status.ensures, rw (w.input-is, w.out-is) w.show.ensures.ends)
   | in-Element w ↦ absurd (not_both _ _ _ _ _ _ (c.in-Ok.ensures.exact ∙ ap (λ m. Some m) w.in-Element.is) is)
-  ]
+]
 
 pub returns-clause-element : goal.returns-clause-element
 returns-clause-element g c fe ce address connections turns is = elim c.match-meant.branch [
-    in-Show w ↦ absurd (not_both _ _ _ _ _ _ is (c.in-Ok.ensures.exact ∙ ap (λ m. Some m) w.in-Show.is))
+  | in-Show w ↦ absurd (not_both _ _ _ _ _ _ is (c.in-Ok.ensures.exact ∙ ap (λ m. Some m) w.in-Show.is))
   | in-Element w ↦
       let (one_fe, one_ce, one_turns) = one_element _ _ _ _ _ _ _ _ _ _ _ is (c.in-Ok.ensures.exact ∙ ap (λ m. Some m) w.in-Element.is) in
       (w.element.result, w.result-is ∙ w.element_status.ensures, rw (one_fe, one_ce, one_turns, w.input-is, w.out-is, w.hub-is) w.element.ensures.ends)
-  ]
+]
