@@ -13,6 +13,7 @@ use Rattle.fc_protocol.specs.declared.states.Seen.TheVariants.{Absent}
 use Rattle.fc_base.specs.Ids.{Txn}
 use Rattle.fc_protocol.proofs.Puts.{put_here, both_first, both_second}
 use Rattle.fc_protocol.proofs.Basics.{In, in_left, in_either, in_get, cond_false, all_in, all_on, both, same_true, same_of, put_other, put_rest, none_some, some_same}
+use Rattle.fc_protocol.proofs.Moves.{Leads, leads_then, reached_on}
 use Rattle.fc_protocol.proofs.Facts.{Past, past, Lives, Unique, Born, Named, SentFine, RequestFine, MessageFine, JobFine, PeerFine, MasterFine, LifeFine, Tied, Later, el_on, job_on, lives_on, Marks, done}
 use Rattle.fc_protocol.proofs.Hearing.{Low, went}
 use Rattle.fc_protocol.proofs.Telling.{life_on, sent_on, later_more, element_tied}
@@ -127,7 +128,7 @@ module _ (x : Txn) (parts : List ℕ) where
       let l = later_ruled x parts h d.core m.epoch d.ruled in
       let f = master_of w c k m ss t in
       record {
-        reached = d.ruled.reached t.reached;
+        reached = reached_on x.epoch parts c d.core d.ruled.leads t.reached;
         elements = λ q. el_on x parts h g l q (w.at q) (c.at q) (d.core.at q) (d.ruled.at q) (t.elements q);
         masters = put_rest (LifeFine x parts g) w.masters k (Some (record m { jobs = js }))
             (record { life = f.life; low = f.low; jobs = d.jobs; peers = λ q. record { low = (f.peers q).low; waits = (f.peers q).waits; counts = (f.peers q).counts } })
@@ -188,14 +189,18 @@ module _ (x : Txn) (parts : List ℕ) where
       let v = send_all_tied w c k ps r.master (ss ++ r.says) u in
       subst (λ z. Tied x parts (with_master w k (sends_all k ps r.master).master z) c) (append_assoc ss r.says (sends_all k ps r.master).says) v
 
-  abbrev pub Goes : World → Type 0
-  Goes w = (c : Core) × Tied x parts w c
+  -- moves lead from c to a core of this world
+  abbrev pub Goes : Core → World → Type 0
+  Goes c w = (d : Core) × Leads x.epoch parts c d × Tied x parts w d
 
-  finish_tied : (w : World) (c : Core) (k : ℕ) (m : Master) (ss : List Sent) → Tied x parts (with_master w k m ss) c → Goes (with_master w k (finish k m).master (ss ++ (finish k m).says))
+  stays : (w : World) (c : Core) → Tied x parts w c → Goes c w
+  stays w c t = (c, ([], refl), t)
+
+  finish_tied : (w : World) (c : Core) (k : ℕ) (m : Master) (ss : List Sent) → Tied x parts (with_master w k m ss) c → Goes c (with_master w k (finish k m).master (ss ++ (finish k m).says))
   finish_tied w c k m ss t =
       let f = master_of w c k m ss t in
       let d = decide_fine x parts (past (with_master w k m ss) c) m.epoch m.begun m.jobs f.jobs in
-      (d.core, send_all_tied w d.core k m.elements (decide_all m) ss (decided_tied w c k m ss (map (λ j. decided_job m.epoch j.decision j) m.jobs) t d))
+      (d.core, d.ruled.leads, send_all_tied w d.core k m.elements (decide_all m) ss (decided_tied w c k m ss (map (λ j. decided_job m.epoch j.decision j) m.jobs) t d))
 
   -- messages that are no new requests
   says_tied : (w : World) (c : Core) (xs : List Sent) → Tied x parts w c → ((s : Sent) → In s xs → SentFine x parts (past (says w xs) c) s) → Unique (w.sent ++ xs) → ((p k : ℕ) (s : Stamp) (b : Body) → In (sent p k (Request s b)) xs → In (sent p k (Request s b)) w.sent) → Tied x parts (says w xs) c
@@ -256,11 +261,11 @@ module _ (x : Txn) (parts : List ℕ) where
   murmurs_tied : (w : World) (c : Core) (p : ℕ) (ks : List ℕ) → Tied x parts w c → Tied x parts (says w (murmurs p ks)) c
   murmurs_tied w c p ks t = repeat_tied w c (murmurs p ks) t (λ s i. inr (murmurs_noise p ks s i))
 
-  speak_tied : (w : World) (c : Core) (k : ℕ) (m : Master) (first : List Sent) → Tied x parts (with_master w k m (w.sent ++ first)) c → Goes (speaks w k first (finish k m))
+  speak_tied : (w : World) (c : Core) (k : ℕ) (m : Master) (first : List Sent) → Tied x parts (with_master w k m (w.sent ++ first)) c → Goes c (speaks w k first (finish k m))
   speak_tied w c k m first t = finish_tied w c k m (w.sent ++ first) t
 
-  to_master_tied : (w : World) (c : Core) (p k : ℕ) (i : Message) (o : Option Master) → Tied x parts w c → w.masters k ≡ o → In (sent p k i) w.sent → Goes (to_master w p k i o)
-  to_master_tied w c p k i None t e n = (c, t)
+  to_master_tied : (w : World) (c : Core) (p k : ℕ) (i : Message) (o : Option Master) → Tied x parts w c → w.masters k ≡ o → In (sent p k i) w.sent → Goes c (to_master w p k i o)
+  to_master_tied w c p k i None t e n = stays w c t
   to_master_tied w c p k i (Some m) t e n =
       let first = at_once k m p i in
       let a = enter w c k m t e in
@@ -272,23 +277,23 @@ module _ (x : Txn) (parts : List ℕ) where
   pub request_low : (h : Past) (k p : ℕ) (s : Stamp) (b : Body) → RequestFine x parts h k p s b → Low s
   request_low h k p s b f = let l = f.life in let e : s.life ≡ 256 * l.0 + k = l.2 in let i : k < 256 = l.3 in let j : l.0 < 2 ^ 24 = l.4 in (omega arith, f.low)
 
-  delivered_tied : (w : World) (c : Core) (ok : Circumstance) (p k : ℕ) (i : Message) → Tied x parts w c → In (sent p k i) w.sent → Goes (delivered w ok p k i)
+  delivered_tied : (w : World) (c : Core) (ok : Circumstance) (p k : ℕ) (i : Message) → Tied x parts w c → In (sent p k i) w.sent → Goes c (delivered w ok p k i)
   delivered_tied w c ok p k Setup t n = to_master_tied w c p k Setup (w.masters k) t refl n
   delivered_tied w c ok p k (Request s b) t n =
       let r : RequestFine x parts (past w c) k p s b = t.sent (sent p k (Request s b)) n in
       let u = went x parts (past w c) w.facts p k (sender w k) (w.at p) ok s b (request_low (past w c) k p s b r) (record { reached = t.reached; marks = t.marks; good = t.good }) (t.elements p) n r.means in
       let heard = hears p (w.at p) (sender w k) ok s b in
-      (u.core, murmurs_tied (to_element w p k heard) u.core p ok.others (element_tied x parts w c p k heard t u))
+      (u.core, u.turned.leads, murmurs_tied (to_element w p k heard) u.core p ok.others (element_tied x parts w c p k heard t u))
   delivered_tied w c ok p k (Reply s b) t n = to_master_tied w c p k (Reply s b) (w.masters k) t refl n
   delivered_tied w c ok p k (Holds s e b) t n = to_master_tied w c p k (Holds s e b) (w.masters k) t refl n
   delivered_tied w c ok p k (Tells s e b) t n = to_master_tied w c p k (Tells s e b) (w.masters k) t refl n
   delivered_tied w c ok p k Beat t n = to_master_tied w c p k Beat (w.masters k) t refl n
   delivered_tied w c ok p k (Unread s e) t n = to_master_tied w c p k (Unread s e) (w.masters k) t refl n
   delivered_tied w c ok p k Other_up t n = to_master_tied w c p k Other_up (w.masters k) t refl n
-  delivered_tied w c ok p k Other_down t n = (c, murmurs_tied w c p ok.others t)
+  delivered_tied w c ok p k Other_down t n = stays (says w (murmurs p ok.others)) c (murmurs_tied w c p ok.others t)
 
-  delivers_tied : (w : World) (c : Core) (ok : Circumstance) (i : ℕ) (o : Option Sent) → Tied x parts w c → numbered w.sent i ≡ o → Goes (delivers w ok o)
-  delivers_tied w c ok i None t e = (c, t)
+  delivers_tied : (w : World) (c : Core) (ok : Circumstance) (i : ℕ) (o : Option Sent) → Tied x parts w c → numbered w.sent i ≡ o → Goes c (delivers w ok o)
+  delivers_tied w c ok i None t e = stays w c t
   delivers_tied w c ok i (Some s) t e = delivered_tied w c ok s.element s.controller s.message t (in_numbered s w.sent i e)
 
   -- a life begins
@@ -414,27 +419,28 @@ module _ (x : Txn) (parts : List ℕ) where
   silent : (w : World) (c : Core) (k : ℕ) (m : Master) → Tied x parts (with_master w k m w.sent) c → Tied x parts (with_master w k m (w.sent ++ [])) c
   silent w c k m t = subst (λ v. Tied x parts (with_master w k m v) c) (sym (append_none w.sent)) t
 
-  begin_by_tied : (w : World) (c : Core) (k : ℕ) (ps : List ℕ) (changes : ℕ → ℕ) (m : Master) (r : Option Refusal) → begin_refusal m ps changes ≡ r → Tied x parts w c → w.masters k ≡ Some m → Named x parts (begin_by w k ps changes m r).begun → Goes (begin_by w k ps changes m r)
-  begin_by_tied w c k ps changes m (Some r) q t e n = (c, t)
+  begin_by_tied : (w : World) (c : Core) (k : ℕ) (ps : List ℕ) (changes : ℕ → ℕ) (m : Master) (r : Option Refusal) → begin_refusal m ps changes ≡ r → Tied x parts w c → w.masters k ≡ Some m → Named x parts (begin_by w k ps changes m r).begun → Goes c (begin_by w k ps changes m r)
+  begin_by_tied w c k ps changes m (Some r) q t e n = stays w c t
   begin_by_tied w c k ps changes m None q t e n =
       let b : Begun = record { txn = record { epoch = m.epoch; number = m.begun + 1 }; parts = ps } in
       let u = begin_tied w c k m ps changes b.txn (begin_low m ps changes q) refl (enter w c k m t e) n in
       speak_tied (with_begun w b) c k (begins m ps changes) [] (silent (with_begun w b) c k (begins m ps changes) u)
 
-  begin_at_tied : (w : World) (c : Core) (k : ℕ) (ps : List ℕ) (changes : ℕ → ℕ) (o : Option Master) → Tied x parts w c → w.masters k ≡ o → Named x parts (begin_at w k ps changes o).begun → Goes (begin_at w k ps changes o)
-  begin_at_tied w c k ps changes None t e n = (c, t)
+  begin_at_tied : (w : World) (c : Core) (k : ℕ) (ps : List ℕ) (changes : ℕ → ℕ) (o : Option Master) → Tied x parts w c → w.masters k ≡ o → Named x parts (begin_at w k ps changes o).begun → Goes c (begin_at w k ps changes o)
+  begin_at_tied w c k ps changes None t e n = stays w c t
   begin_at_tied w c k ps changes (Some m) t e n = begin_by_tied w c k ps changes m (begin_refusal m ps changes) refl t e n
 
-  give_up_by_tied : (w : World) (c : Core) (k : ℕ) (y : Txn) (m : Master) (r : Option Refusal) → Tied x parts w c → w.masters k ≡ Some m → Goes (give_up_by w k y m r)
-  give_up_by_tied w c k y m (Some r) t e = (c, t)
+  give_up_by_tied : (w : World) (c : Core) (k : ℕ) (y : Txn) (m : Master) (r : Option Refusal) → Tied x parts w c → w.masters k ≡ Some m → Goes c (give_up_by w k y m r)
+  give_up_by_tied w c k y m (Some r) t e = stays w c t
   give_up_by_tied w c k y m None t e =
       let a = enter w c k m t e in
       let f = master_of w c k m w.sent a in
       let d = give_up_fine x parts (past w c) m.epoch m.begun m.jobs y f.jobs in
-      speak_tied w d.core k (gives_up m y) [] (silent w d.core k (gives_up m y) (decided_tied w c k m w.sent (map (given_up y) m.jobs) a d))
+      let r = speak_tied w d.core k (gives_up m y) [] (silent w d.core k (gives_up m y) (decided_tied w c k m w.sent (map (given_up y) m.jobs) a d)) in
+      (r.0, leads_then x.epoch parts c d.core r.0 d.ruled.leads r.1, r.2)
 
-  give_up_at_tied : (w : World) (c : Core) (k : ℕ) (y : Txn) (o : Option Master) → Tied x parts w c → w.masters k ≡ o → Goes (give_up_at w k y o)
-  give_up_at_tied w c k y None t e = (c, t)
+  give_up_at_tied : (w : World) (c : Core) (k : ℕ) (y : Txn) (o : Option Master) → Tied x parts w c → w.masters k ≡ o → Goes c (give_up_at w k y o)
+  give_up_at_tied w c k y None t e = stays w c t
   give_up_at_tied w c k y (Some m) t e = give_up_by_tied w c k y m (give_up_refusal m y) t e
 
   resend_at_tied : (w : World) (c : Core) (k p : ℕ) (o : Option Master) → Tied x parts w c → w.masters k ≡ o → Tied x parts (resend_at w k p o) c
@@ -456,17 +462,17 @@ module _ (x : Txn) (parts : List ℕ) where
   change_at_tied w c k p None t e = t
   change_at_tied w c k p (Some m) t e = change_by_tied w c k p m (plain_refusal m p) refl t e
 
-  pub happens_tied : (w : World) (c : Core) (s : Step) → Named x parts (happens w s).begun → Tied x parts w c → Goes (happens w s)
+  pub happens_tied : (w : World) (c : Core) (s : Step) → Named x parts (happens w s).begun → Tied x parts w c → Goes c (happens w s)
   happens_tied w c (Open p k) n t =
-      cond_all Goes (among p w.network.elements && is_some (controller_of w.network.controllers k)) (says w (sent p k Setup ∷ [])) w (λ _. (c, open_tied w c p k t)) (λ _. (c, t))
-  happens_tied w c (Moment p ks) n t = cond_all Goes (among p w.network.elements) (says w (murmurs p ks)) w (λ _. (c, murmurs_tied w c p ks t)) (λ _. (c, t))
-  happens_tied w c (Change k p) n t = (c, change_at_tied w c k p (w.masters k) t refl)
+      cond_all (Goes c) (among p w.network.elements && is_some (controller_of w.network.controllers k)) (says w (sent p k Setup ∷ [])) w (λ _. stays (says w (sent p k Setup ∷ [])) c (open_tied w c p k t)) (λ _. stays w c t)
+  happens_tied w c (Moment p ks) n t = cond_all (Goes c) (among p w.network.elements) (says w (murmurs p ks)) w (λ _. stays (says w (murmurs p ks)) c (murmurs_tied w c p ks t)) (λ _. stays w c t)
+  happens_tied w c (Change k p) n t = stays (change_at w k p (w.masters k)) c (change_at_tied w c k p (w.masters k) t refl)
   happens_tied w c (Deliver i ok) n t = delivers_tied w c ok i (numbered w.sent i) t refl
-  happens_tied w c (Start k r) n t = cond_all Goes (may_start w k r) (starts w k r) w (λ e. let v = may_start_is w k r e in (c, start_tied w c k r t v.0 v.1 v.2)) (λ _. (c, t))
-  happens_tied w c (Stop k) n t = (c, stop_tied w c k t)
+  happens_tied w c (Start k r) n t = cond_all (Goes c) (may_start w k r) (starts w k r) w (λ e. let v = may_start_is w k r e in stays (starts w k r) c (start_tied w c k r t v.0 v.1 v.2)) (λ _. stays w c t)
+  happens_tied w c (Stop k) n t = stays (record w { masters = put w.masters k None }) c (stop_tied w c k t)
   happens_tied w c (Begin k ps changes) n t = begin_at_tied w c k ps changes (w.masters k) t refl n
   happens_tied w c (Give_up k y) n t = give_up_at_tied w c k y (w.masters k) t refl
-  happens_tied w c (Resend k p) n t = (c, resend_at_tied w c k p (w.masters k) t refl)
+  happens_tied w c (Resend k p) n t = stays (resend_at w k p (w.masters k)) c (resend_at_tied w c k p (w.masters k) t refl)
 
   pub first_tied : (net : Network) → Tied x parts (first_world net) start
   first_tied net = record {

@@ -1,8 +1,8 @@
 -- One life makes a transaction, once, with one list of participants.
-use Rattle.std.proofs.Common.{◌≡◌, ℕ, ◌+◌, ◌*◌, ◌^◌, ◌<◌, ◌≤◌, ◌&&◌, ◌||◌, ◌==◌, eqb-true, Bool, true, false, cond, nat_lt, List, [], ◌∷◌, Option, Some, None, is_some, inl, inr, ⊎_elim, refl, sym, ap, ◌∙◌, subst, arith}
-use Rattle.fc_protocol.specs.Agreement.{Agree, SettleOnce, Ready, OnePlan, Settled, SettledWhole, BegunOnce, SaysOnce, FollowsCore, Bounded}
+use Rattle.std.proofs.Common.{◌≡◌, ℕ, ◌+◌, ◌*◌, ◌^◌, ◌<◌, ◌≤◌, ◌&&◌, ◌||◌, ◌==◌, eqb-true, Bool, true, false, cond, nat_lt, List, [], ◌∷◌, ◌++◌, Option, Some, None, is_some, inl, inr, ⊎_elim, refl, sym, ap, ◌∙◌, subst, arith}
+use Rattle.fc_protocol.specs.Agreement.{Agree, SettleOnce, Ready, OnePlan, Settled, SettledWhole, BegunOnce, SaysOnce, Mirrors, FollowsCore, AtRest, Bounded}
 use Rattle.fc_protocol.specs.Collections.{put, among}
-use Rattle.fc_protocol.specs.Core.{start}
+use Rattle.fc_protocol.specs.Core.{Core, moves, start}
 use Rattle.fc_protocol.specs.ElementMachine.{Circumstance}
 use Rattle.fc_protocol.specs.Jobs.{discover, on_job, answered_by, answer, all_settled, Job}
 use Rattle.fc_protocol.specs.MasterMachine.{after_ask, dropped, Refusal, begin_refusal, plain_refusal, give_up_refusal, unread_told, Waiting, Master, new_master, at_put, due, sends_one, sends_all, heard, matches, coded, by_epoch, depose, is_lower, unmatched, held_by, held_told, record_by, record_told, begins, gives_up, decide_all, finish, Speaks}
@@ -15,8 +15,9 @@ use Rattle.fc_protocol.proofs.Puts.{put_here, both_first, both_second}
 use Rattle.fc_protocol.proofs.Basics.{In, both, cond_true, same_true, same_of, put_rest}
 use Rattle.fc_protocol.proofs.Facts.{Past, Lives, Named}
 use Rattle.fc_protocol.proofs.Hears.{cond_all}
-use Rattle.fc_protocol.proofs.Binding.{same_life, fresh_life, may_start_is, Goes, first_tied}
-use Rattle.fc_protocol.proofs.Runs.{run_tied, agrees, settles_once, readies, opens_alike, settled_there, says_apart, follows, bounded}
+use Rattle.fc_protocol.proofs.Calm.{LifeCalm, calm_finishes, all_calm}
+use Rattle.fc_protocol.proofs.Binding.{same_life, fresh_life, may_start_is, first_tied}
+use Rattle.fc_protocol.proofs.Runs.{Bound, run_tied, agrees, settles_once, readies, opens_alike, settled_there, says_apart, begun_run, mirrors, bounded}
 
 abbrev Alike : Master → Master → Type 0
 Alike m n = (n.epoch ≡ m.epoch) × (n.begun ≡ m.begun)
@@ -100,10 +101,16 @@ LifeNumbered h k (Some m) = Numbered h k m
 abbrev pub at_start : World → Past
 at_start w = record { core = start; sent = []; used = w.used; begun = w.begun }
 
+-- no two are of one transaction
+abbrev pub Singles : List Begun → Type 0
+Singles [] = Unit {0}
+Singles (b ∷ bs) = ((a : Begun) → In a bs → a.txn ≡ b.txn → ⊥) × Singles bs
+
 pub record Ids (w : World) : Type 0 where
   pub lives : (k : ℕ) → LifeNumbered (at_start w) k (w.masters k)
   pub owners : (b : Begun) → In b w.begun → (k : ℕ) × Lives (at_start w) k b.txn.epoch
   pub once : (a b : Begun) → In a w.begun → In b w.begun → a.txn ≡ b.txn → a.parts ≡ b.parts
+  pub single : Singles w.begun
 
 alike_numbered : (h : Past) (k : ℕ) (m n : Master) → Alike m n → Numbered h k m → Numbered h k n
 alike_numbered h k m n a f = record { life = subst (Lives h k) (sym a.0) f.life; numbers = λ b i e. subst (λ v. b.txn.number ≤ v) (sym a.1) (f.numbers b i (e ∙ a.0)) }
@@ -113,6 +120,7 @@ speaks_ids w k m n r first i e a b = record {
   lives = put_rest (LifeNumbered (at_start w)) w.masters k (Some r.master) (alike_numbered (at_start w) k m r.master (alike_then m n r.master a b) (subst (LifeNumbered (at_start w) k) e (i.lives k))) (λ j _. i.lives j);
   owners = i.owners;
   once = i.once;
+  single = i.single;
 }
 
 to_master_ids : (w : World) (p k : ℕ) (t : Message) (o : Option Master) → Ids w → w.masters k ≡ o → Ids (to_master w p k t o)
@@ -121,14 +129,14 @@ to_master_ids w p k t (Some m) i e = speaks_ids w k m (heard m p t) _ _ i e (hea
 
 delivered_ids : (w : World) (ok : Circumstance) (p k : ℕ) (t : Message) → Ids w → Ids (delivered w ok p k t)
 delivered_ids w ok p k Setup i = to_master_ids w p k Setup (w.masters k) i refl
-delivered_ids w ok p k (Request s b) i = record { lives = i.lives; owners = i.owners; once = i.once }
+delivered_ids w ok p k (Request s b) i = record { lives = i.lives; owners = i.owners; once = i.once; single = i.single }
 delivered_ids w ok p k (Reply s b) i = to_master_ids w p k (Reply s b) (w.masters k) i refl
 delivered_ids w ok p k (Holds s e b) i = to_master_ids w p k (Holds s e b) (w.masters k) i refl
 delivered_ids w ok p k (Tells s e b) i = to_master_ids w p k (Tells s e b) (w.masters k) i refl
 delivered_ids w ok p k Beat i = to_master_ids w p k Beat (w.masters k) i refl
 delivered_ids w ok p k (Unread s e) i = to_master_ids w p k (Unread s e) (w.masters k) i refl
 delivered_ids w ok p k Other_up i = to_master_ids w p k Other_up (w.masters k) i refl
-delivered_ids w ok p k Other_down i = record { lives = i.lives; owners = i.owners; once = i.once }
+delivered_ids w ok p k Other_down i = record { lives = i.lives; owners = i.owners; once = i.once; single = i.single }
 
 delivers_ids : (w : World) (ok : Circumstance) (o : Option Sent) → Ids w → Ids (delivers w ok o)
 delivers_ids w ok None i = i
@@ -151,6 +159,7 @@ start_ids w k r small few new i = record {
       (λ j _. numbered_on w k r j (w.masters j) (i.lives j));
   owners = λ b n. let v = i.owners b n in (v.0, used_on w k r v.0 b.txn.epoch v.1);
   once = i.once;
+  single = i.single;
 }
 
 -- others are not of the new transaction's life
@@ -178,6 +187,7 @@ begin_by_ids w k ps changes m None i e =
       owners = λ a u. ⊎_elim (λ s. (k, subst (Lives (at_start w) k) (ap (λ (v : Begun). v.txn.epoch) (sym s)) f.life)) (λ s. i.owners a s) u;
       once = λ a c u v s. ⊎_elim (λ y. ⊎_elim (λ z. ap (λ (t : Begun). t.parts) (y ∙ sym z)) (λ z. absurd (clash c z (sym s ∙ ap (λ (t : Begun). t.txn) y))) v)
           (λ y. ⊎_elim (λ z. absurd (clash a y (s ∙ ap (λ (t : Begun). t.txn) z))) (λ z. i.once a c y z s) v) u;
+      single = (clash, i.single);
     }
 
 begin_ids : (w : World) (k : ℕ) (ps : List ℕ) (changes : ℕ → ℕ) (o : Option Master) → Ids w → w.masters k ≡ o → Ids (begin_at w k ps changes o)
@@ -194,7 +204,7 @@ give_up_ids w k y (Some m) i e = give_up_by_ids w k y m (give_up_refusal m y) i 
 
 resend_ids : (w : World) (k p : ℕ) (o : Option Master) → Ids w → Ids (resend_at w k p o)
 resend_ids w k p None i = i
-resend_ids w k p (Some m) i = record { lives = i.lives; owners = i.owners; once = i.once }
+resend_ids w k p (Some m) i = record { lives = i.lives; owners = i.owners; once = i.once; single = i.single }
 
 change_by_ids : (w : World) (k p : ℕ) (m : Master) (r : Option Refusal) → Ids w → w.masters k ≡ Some m → Ids (change_by w k p m r)
 change_by_ids w k p m (Some r) i e = i
@@ -205,7 +215,7 @@ change_ids w k p None i e = i
 change_ids w k p (Some m) i e = change_by_ids w k p m (plain_refusal m p) i e
 
 says_ids : (w : World) (ss : List Sent) → Ids w → Ids (says w ss)
-says_ids w ss i = record { lives = i.lives; owners = i.owners; once = i.once }
+says_ids w ss i = record { lives = i.lives; owners = i.owners; once = i.once; single = i.single }
 
 happens_ids : (w : World) (s : Step) → Ids w → Ids (happens w s)
 happens_ids w (Open p k) i = cond_all Ids (among p w.network.elements && is_some (controller_of w.network.controllers k)) (says w (sent p k Setup ∷ [])) w (λ _. says_ids w _ i) (λ _. i)
@@ -213,7 +223,7 @@ happens_ids w (Moment p ks) i = cond_all Ids (among p w.network.elements) (says 
 happens_ids w (Change k p) i = change_ids w k p (w.masters k) i refl
 happens_ids w (Deliver n ok) i = delivers_ids w ok (numbered w.sent n) i
 happens_ids w (Start k r) i = cond_all Ids (may_start w k r) (starts w k r) w (λ e. let v = may_start_is w k r e in start_ids w k r v.0 v.1 v.2 i) (λ _. i)
-happens_ids w (Stop k) i = record { lives = put_rest (LifeNumbered (at_start w)) w.masters k None tt (λ j _. i.lives j); owners = i.owners; once = i.once }
+happens_ids w (Stop k) i = record { lives = put_rest (LifeNumbered (at_start w)) w.masters k None tt (λ j _. i.lives j); owners = i.owners; once = i.once; single = i.single }
 happens_ids w (Begin k ps changes) i = begin_ids w k ps changes (w.masters k) i refl
 happens_ids w (Give_up k y) i = give_up_ids w k y (w.masters k) i refl
 happens_ids w (Resend k p) i = resend_ids w k p (w.masters k) i
@@ -223,7 +233,7 @@ run_ids [] w i = i
 run_ids (s ∷ ss) w i = run_ids ss (happens w s) (happens_ids w s i)
 
 first_ids : (net : Network) → Ids (first_world net)
-first_ids net = record { lives = λ _. tt; owners = λ b i. absurd i; once = λ a b i. absurd i }
+first_ids net = record { lives = λ _. tt; owners = λ b i. absurd i; once = λ a b i. absurd i; single = tt }
 
 -- the participants that x was begun with
 abbrev pub parts_of : Txn → List Begun → List ℕ
@@ -254,12 +264,18 @@ settled_among j (q ∷ ps) p e a =
     or_false true b e f = cc
     or_false false b e f = f
 
+singles_at : (later before : List Begun) (a : Begun) → Singles (later ++ a ∷ before) → (b : Begun) → In b before → b.txn ≡ a.txn → ⊥
+singles_at [] before a s = s.0
+singles_at (c ∷ later) before a s = singles_at later before a s.1
+
 module _ (net : Network) (ss : List Step) where
   abbrev pub world : World
   world = run ss (first_world net)
 
-  pub goes : (x : Txn) → Goes x (parts_of x world.begun) world
-  goes x = run_tied x (parts_of x world.begun) ss (first_world net) start (named world x (run_ids ss (first_world net) (first_ids net))) (first_tied x (parts_of x world.begun) net)
+  pub goes : (x : Txn) → Bound x (parts_of x world.begun) world
+  goes x =
+      let v = run_tied x (parts_of x world.begun) ss (first_world net) start (named world x (run_ids ss (first_world net) (first_ids net))) (first_tied x (parts_of x world.begun) net) in
+      (v.0, v.2)
 
   pub ids : Ids world
   ids = run_ids ss (first_world net) (first_ids net)
@@ -283,13 +299,24 @@ module _ (net : Network) (ss : List Step) where
   settled_whole_law k m j p e i s a = settled_law k m j p e i (settled_among j j.parts p s a)
 
   pub begun_once_law : BegunOnce world
-  begun_once_law = (run_ids ss (first_world net) (first_ids net)).once
+  begun_once_law a b later before e i t = singles_at later before a (subst Singles e ids.single) b i (sym t)
 
   pub says_once_law : SaysOnce world
   says_once_law x p q j k m n = says_apart x (parts_of x world.begun) world (goes x) p q j k m n
 
-  pub follows_core_law : FollowsCore world
-  follows_core_law x = follows x (parts_of x world.begun) world (goes x)
+  pub follows_core_law : (more : List Step) → FollowsCore world (run more world)
+  follows_core_law more x =
+      let v = run more world in
+      let ps = parts_of x v.begun in
+      let all = named v x (run_ids more world ids) in
+      let a = run_tied x ps ss (first_world net) start (λ b i e. all b (begun_run x ps more world b i) e) (first_tied x ps net) in
+      let b = run_tied x ps more world a.0 all a.2 in
+      let now : Mirrors x (moves x.epoch ps a.1.0 start) world = subst (λ (c : Core). Mirrors x c world) (sym a.1.1) (mirrors x ps world a.0 a.2) in
+      let then : Mirrors x (moves x.epoch ps b.1.0 (moves x.epoch ps a.1.0 start)) v = subst (λ (c : Core). Mirrors x c v) (sym (ap (moves x.epoch ps b.1.0) a.1.1 ∙ b.1.1)) (mirrors x ps v b.0 b.2) in
+      (ps, a.1.0, b.1.0, now, then)
+
+  pub at_rest_law : AtRest world
+  at_rest_law k m e = calm_finishes k m (subst LifeCalm e (all_calm net ss k))
 
   pub bounded_law : Bounded world
   bounded_law = let y : Txn = record { epoch = 0; number = 0 } in bounded y (parts_of y world.begun) world (goes y)

@@ -1,13 +1,12 @@
 -- A whole run is moves of the core, and what its facts show.
 use Rattle.std.proofs.Common.{◌≡◌, ℕ, ◌+◌, ◌*◌, ◌^◌, ◌<◌, ◌≤◌, ◌&&◌, true, List, [], ◌∷◌, ◌++◌, Option, Some, None, is_some, inr, ⊎_elim, refl, sym, ap, ◌∙◌, subst, arith}
-use Rattle.fc_protocol.specs.Agreement.{decision_of, Bounded}
+use Rattle.fc_protocol.specs.Agreement.{Mirrors, Bounded}
 use Rattle.fc_protocol.specs.Collections.{among}
-use Rattle.fc_protocol.specs.Core.{Core, Move, moves, start}
+use Rattle.fc_protocol.specs.Core.{Core}
 use Rattle.fc_protocol.specs.ElementMachine.{Circumstance}
-use Rattle.fc_protocol.specs.Jobs.{Job, find}
+use Rattle.fc_protocol.specs.Jobs.{Job}
 use Rattle.fc_protocol.specs.MasterMachine.{last_count, Refusal, begin_refusal, plain_refusal, give_up_refusal, Master}
 use Rattle.fc_protocol.specs.Messages.{Trcomp, Abt, Beat, Unread, Stamp, Message, Setup, Request, Reply, Holds, Tells, Other_up, Other_down, Sent, sent}
-use Rattle.fc_protocol.specs.Records.{seen, state_of}
 use Rattle.fc_protocol.specs.Trace.{Fact, Opened_at, Prepared_at, Settled_at}
 use Rattle.fc_protocol.specs.WorldSteps.{Open, Give_up, controller_of, World, Begun, Step, Deliver, Moment, Start, Stop, Begin, Change, Resend, murmurs, numbered, may_start, begin_by, give_up_by, change_by, change_at, says, to_master, delivered, delivers, starts, begin_at, give_up_at, resend_at, happens, run}
 use Rattle.fc_protocol.specs.declared.states.Decision.{Decision}
@@ -16,12 +15,13 @@ use Rattle.fc_base.specs.Ids.{Txn}
 use Rattle.fc_protocol.proofs.Basics.{In, all_in}
 use Rattle.fc_protocol.proofs.Facts.{past, Named, RequestFine, JobFine, Tied, GoodFact, GoodFacts, done}
 use Rattle.fc_protocol.proofs.Keeps.{agree}
+use Rattle.fc_protocol.proofs.Moves.{leads_then}
 use Rattle.fc_protocol.proofs.Hears.{cond_all}
 use Rattle.fc_protocol.proofs.Binding.{Goes, master_is, request_low, happens_tied}
 
 module _ (x : Txn) (parts : List ℕ) where
   abbrev pub Bound : World → Type 0
-  Bound w = Goes x parts w
+  Bound w = (c : Core) × Tied x parts w c
 
   begun_master : (w : World) (p k : ℕ) (i : Message) (o : Option Master) → (to_master w p k i o).begun ≡ w.begun
   begun_master w p k i None = refl
@@ -81,15 +81,16 @@ module _ (x : Txn) (parts : List ℕ) where
   begun_on w (Give_up k y) b i = subst (In b) (sym (begun_give_up w k y (w.masters k))) i
   begun_on w (Resend k p) b i = subst (In b) (sym (begun_resend w k p (w.masters k))) i
 
-  begun_run : (ss : List Step) (w : World) (b : Begun) → In b w.begun → In b (run ss w).begun
+  pub begun_run : (ss : List Step) (w : World) (b : Begun) → In b w.begun → In b (run ss w).begun
   begun_run [] w b i = i
   begun_run (s ∷ ss) w b i = begun_run ss (happens w s) b (begun_on w s b i)
 
-  pub run_tied : (ss : List Step) (w : World) (c : Core) → Named x parts (run ss w).begun → Tied x parts w c → Bound (run ss w)
-  run_tied [] w c n t = (c, t)
+  pub run_tied : (ss : List Step) (w : World) (c : Core) → Named x parts (run ss w).begun → Tied x parts w c → Goes x parts c (run ss w)
+  run_tied [] w c n t = (c, ([], refl), t)
   run_tied (s ∷ ss) w c n t =
       let u = happens_tied x parts w c s (λ b i e. n b (begun_run ss (happens w s) b i) e) t in
-      run_tied ss (happens w s) u.0 n u.1
+      let v = run_tied ss (happens w s) u.0 n u.2 in
+      (v.0, leads_then x.epoch parts c u.0 v.0 u.1 v.1, v.2)
 
   -- the facts of a whole run
 
@@ -139,19 +140,9 @@ module _ (x : Txn) (parts : List ℕ) where
       let clash : Some Complete ≡ Some Abort = sym (f.means refl).0 ∙ ap u.0.decided e ∙ (g.means refl).0 in
       cc
 
-  abbrev Follows : World → Core → Type 0
-  Follows w c = ((p : ℕ) → ((c.at p).epoch ≡ (w.at p).epoch) × ((c.at p).state ≡ seen (state_of x (w.at p).records))) × ((k : ℕ) (m : Master) → w.masters k ≡ Some m → c.decided m.epoch ≡ decision_of (find x m.jobs))
-
-  -- the world is what the moves of the core have made
-  pub follows : (w : World) → Bound w → (qs : List ℕ) × (ms : List Move)
-      × ((p : ℕ) → (((moves x.epoch qs ms start).at p).epoch ≡ (w.at p).epoch) × (((moves x.epoch qs ms start).at p).state ≡ seen (state_of x (w.at p).records)))
-      × ((k : ℕ) (m : Master) → w.masters k ≡ Some m → (moves x.epoch qs ms start).decided m.epoch ≡ decision_of (find x m.jobs))
-  follows w u =
-      let c = u.0 in
-      let t = u.1 in
-      let here : Follows w c = ((λ p. (sym (t.elements p).epoch, sym (t.elements p).state)), (λ k m e. (master_is x parts (past w c) k (w.masters k) m e (t.masters k)).jobs.decided)) in
-      let there : Follows w (moves x.epoch parts t.reached.0 start) = subst (Follows w) (sym t.reached.1) here in
-      (parts, t.reached.0, there.0, there.1)
+  -- the world is what the core tells
+  pub mirrors : (w : World) (c : Core) → Tied x parts w c → Mirrors x c w
+  mirrors w c t = ((λ p. (sym (t.elements p).epoch, sym (t.elements p).state)), (λ k m e. (master_is x parts (past w c) k (w.masters k) m e (t.masters k)).jobs.decided))
 
   -- all numbers fit in their 32 bits
   pub bounded : (w : World) → Bound w → Bounded w

@@ -8,6 +8,7 @@ use Rattle.fc_protocol.specs.Trace.{Fact}
 use Rattle.fc_protocol.specs.WorldSteps.{World, spoken, to_element}
 use Rattle.fc_base.specs.Ids.{Txn}
 use Rattle.fc_protocol.proofs.Basics.{In, in_left, in_either, put_other, put_rest}
+use Rattle.fc_protocol.proofs.Moves.{reached_on}
 use Rattle.fc_protocol.proofs.Facts.{Past, past, Unique, SentFine, ElFine, LifeFine, Tied, Later, Apart, message_on, el_on, master_on}
 use Rattle.fc_protocol.proofs.Hearing.{on, later_turned, SaysFine, Went}
 
@@ -77,7 +78,7 @@ module _ (x : Txn) (parts : List ℕ) where
       let n = later_trans h one g l m in
       let quiet = says_quiet h one w.facts p k r.says u.says_fine in
       record {
-        reached = u.turned.reached t.reached;
+        reached = reached_on x.epoch parts c u.core u.turned.leads t.reached;
         elements = put_rest (λ q v. ElFine x parts g q v (u.core.at q)) w.at p r.element
             (el_on x parts one g m p r.element (u.core.at p) (u.core.at p) refl u.element_fine)
             (λ q d. el_on x parts h g n q (w.at q) (c.at q) (u.core.at q) (u.turned.at q ∙ put_other c.at p (u.core.at p) q d) (t.elements q));

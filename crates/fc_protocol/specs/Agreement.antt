@@ -1,10 +1,10 @@
 -- What holds of a world however messages are lost, repeated and reordered and controllers stop and return. Lists of facts have the newest first. This profile's own.
-use Rattle.std.specs.Prelude.{◌≡◌, ℕ, ◌<◌, ◌^◌, true, List, ◌∷◌, ◌++◌, Option, Some, None}
+use Rattle.std.specs.Prelude.{◌≡◌, ℕ, ◌<◌, ◌^◌, true, List, [], ◌∷◌, ◌++◌, Option, Some, None}
 use Rattle.fc_base.specs.Ids.{Txn}
 use Rattle.fc_protocol.specs.Collections.{In, among}
-use Rattle.fc_protocol.specs.Core.{Move, start, moves}
+use Rattle.fc_protocol.specs.Core.{Core, Move, start, moves}
 use Rattle.fc_protocol.specs.Jobs.{Job, find, is_settled}
-use Rattle.fc_protocol.specs.MasterMachine.{Master}
+use Rattle.fc_protocol.specs.MasterMachine.{Master, finish}
 use Rattle.fc_protocol.specs.Messages.{Stamp, Body, Request, Trcomp, Abt, sent}
 use Rattle.fc_protocol.specs.Records.{seen, state_of}
 use Rattle.fc_protocol.specs.Trace.{Fact, Opened_at, Prepared_at, Settled_at}
@@ -37,9 +37,9 @@ Settled w = (k : ℕ) (m : Master) (j : Job) (p : ℕ) → w.masters k ≡ Some 
 abbrev pub SettledWhole : World → Type 0
 SettledWhole w = (k : ℕ) (m : Master) (j : Job) (p : ℕ) → w.masters k ≡ Some m → In j m.jobs → is_settled j ≡ true → among p j.parts ≡ true → (d : Decision) × (j.decision ≡ Some d) × In (Settled_at p j.txn d) w.facts
 
--- one life begins a transaction, once, with one list of participants
+-- a transaction is begun once at most; the newest stands first
 abbrev pub BegunOnce : World → Type 0
-BegunOnce w = (a b : Begun) → In a w.begun → In b w.begun → a.txn ≡ b.txn → a.parts ≡ b.parts
+BegunOnce w = (a b : Begun) (later before : List Begun) → w.begun ≡ later ++ a ∷ before → In b before → a.txn ≡ b.txn → ⊥
 
 -- what one life says of a transaction's end it never takes back
 abbrev pub SaysOnce : World → Type 0
@@ -50,12 +50,19 @@ abbrev pub decision_of : Option Job → Option Decision
 decision_of None = None
 decision_of (Some j) = j.decision
 
--- whatever has happened is, for each transaction, a list of moves of its core, which then tells each element's epoch and record and each running master's decision
-abbrev pub FollowsCore : World → Type 0
-FollowsCore w =
-    (x : Txn) → (parts : List ℕ) × (ms : List Move)
-    × ((p : ℕ) → (((moves x.epoch parts ms start).at p).epoch ≡ (w.at p).epoch) × (((moves x.epoch parts ms start).at p).state ≡ seen (state_of x (w.at p).records)))
-    × ((k : ℕ) (m : Master) → w.masters k ≡ Some m → (moves x.epoch parts ms start).decided m.epoch ≡ decision_of (find x m.jobs))
+-- the core tells each element's epoch and record of x, and what each running master has decided of it
+abbrev pub Mirrors : Txn → Core → World → Type 0
+Mirrors x c w =
+    ((p : ℕ) → ((c.at p).epoch ≡ (w.at p).epoch) × ((c.at p).state ≡ seen (state_of x (w.at p).records))) × ((k : ℕ) (m : Master) → w.masters k ≡ Some m → c.decided m.epoch ≡ decision_of (find x m.jobs))
+
+-- whatever has happened until w, and from there until v, is, for each transaction, a list of moves of its core
+abbrev pub FollowsCore : World → World → Type 0
+FollowsCore w v =
+    (x : Txn) → (parts : List ℕ) × (until since : List Move) × Mirrors x (moves x.epoch parts until start) w × Mirrors x (moves x.epoch parts since (moves x.epoch parts until start)) v
+
+-- no running master has anything left to decide or to send: what is due was sent with the input that made it due
+abbrev pub AtRest : World → Type 0
+AtRest w = (k : ℕ) (m : Master) → w.masters k ≡ Some m → finish k m ≡ record { master = m; says = [] }
 
 -- every number in a request, at an element and of a running master fits in its 32 bits
 abbrev pub Bounded : World → Type 0

@@ -1,4 +1,4 @@
-use Rattle.fc_protocol.proofs.Numbers.{agree_law, once_law, ready_law, one_plan_law, settled_law, settled_whole_law, begun_once_law, says_once_law, follows_core_law, bounded_law}
+use Rattle.fc_protocol.proofs.Numbers.{agree_law, once_law, ready_law, one_plan_law, settled_law, settled_whole_law, begun_once_law, says_once_law, follows_core_law, at_rest_law, bounded_law}
 use Rattle.fc_protocol.proofs.laws.agreement.Goals as goal
 
 pub returns-clause-agree : goal.returns-clause-agree
@@ -26,7 +26,10 @@ pub returns-clause-says_once : goal.returns-clause-says_once
 returns-clause-says_once c = says_once_law
 
 pub returns-clause-follows_core : goal.returns-clause-follows_core
-returns-clause-follows_core c = follows_core_law
+returns-clause-follows_core c n steps more = follows_core_law n steps more
+
+pub returns-clause-at_rest : goal.returns-clause-at_rest
+returns-clause-at_rest c = at_rest_law
 
 pub returns-clause-bounded : goal.returns-clause-bounded
 returns-clause-bounded c = bounded_law
