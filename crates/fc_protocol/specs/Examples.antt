@@ -77,6 +77,14 @@ late_give_up = opening_steps ++ delivers_from 13 11 ++ Give_up 1 (record { epoch
 abbrev pub repeated_end : List Step
 repeated_end = opening_steps ++ delivers_from 13 8 ++ deliver 21 ∷ deliver 21 ∷ deliver 21 ∷ []
 
+-- the claim arrives at the first element twice more
+abbrev pub repeated_claim : List Step
+repeated_claim = claiming ++ deliver 4 ∷ deliver 4 ∷ []
+
+-- the first controller hears that its late abort is refused, asks, and hears of the second's epoch
+abbrev pub deposing : List Step
+deposing = late_give_up ++ delivers_from 46 3
+
 -- one element refuses the one change
 abbrev pub refused_change : List Step
 refused_change = Start 1 1 ∷ Open 1 1 ∷ delivers_from 1 6 ++ Begin 1 (1 ∷ []) (λ _. 1) ∷ deliver 7 ∷ deliver 8 ∷ Deliver 9 refusing ∷ delivers_from 10 5

@@ -2,7 +2,8 @@
 
 ghost use Rattle.std.specs.Prelude.{◌≡◌, ℕ, true, false, List, [], ◌∷◌, ◌++◌, length, Some, None};
 ghost use Rattle.fc_protocol.specs.CleanRound.{Able};
-ghost use Rattle.fc_protocol.specs.Examples.{first_controller, second_controller, pair, lone, claiming, clean, completing_failover, aborting_failover, late_give_up, repeated_end, refused_change, the_txn, element_line, job_of, sent_since, after_steps, master_of};
+ghost use Rattle.fc_protocol.specs.Examples.{first_controller, second_controller, pair, lone, claiming, clean, completing_failover, aborting_failover, late_give_up, repeated_end, repeated_claim, deposing, refused_change, the_txn, element_line, job_of, sent_since, after_steps, master_of};
+ghost use Rattle.fc_protocol.specs.MasterMachine.{begin_refusal, Deposed};
 ghost use Rattle.fc_protocol.specs.Messages.{Reply, Tells};
 ghost use Rattle.fc_protocol.specs.Trace.{Opened_at, Prepared_at, Claimed_at};
 ghost use Rattle.fc_protocol.specs.declared.states.Decision.TheVariants.{Complete, Abort};
@@ -46,6 +47,19 @@ pub fn late_give_up_completes()
 pub fn repeated_end_prepares_once()
     ensures facts { (after_steps pair repeated_end).facts ≡ Prepared_at 1 the_txn ∷ Opened_at 2 the_txn (1 ∷ 2 ∷ []) ∷ Opened_at 1 the_txn (1 ∷ 2 ∷ []) ∷ Claimed_at 2 257 ∷ Claimed_at 1 257 ∷ [] }
     ensures replies { sent_since 22 (after_steps pair repeated_end).sent ≡ Reply (record { life = 257; count = 3 }) 0 ∷ Reply (record { life = 257; count = 3 }) 0 ∷ Reply (record { life = 257; count = 3 }) 0 ∷ [] }
+{}
+
+/// A claim that arrives three times claims once, and is answered three times alike.
+pub fn repeated_claim_claims_once()
+    ensures facts { (after_steps pair repeated_claim).facts ≡ Claimed_at 2 257 ∷ Claimed_at 1 257 ∷ [] }
+    ensures replies { sent_since 12 (after_steps pair repeated_claim).sent ≡ Reply (record { life = 257; count = 0 }) 0 ∷ Reply (record { life = 257; count = 0 }) 0 ∷ [] }
+{}
+
+/// A master that hears of a greater epoch drops what waits, also at other elements, and begins nothing more.
+pub fn replaced_master_is_deposed()
+    ensures deposed { (master_of ((after_steps pair deposing).masters 1)).deposed ≡ Some 258 }
+    ensures dropped { ((master_of ((after_steps pair deposing).masters 1)).at 2).waits ≡ None }
+    ensures refused { begin_refusal (master_of ((after_steps pair deposing).masters 1)) (1 ∷ []) (λ _. 1) ≡ Some (Deposed 258) }
 {}
 
 /// A change that is refused with 0C undoes the transaction; the master asks whether it still is the master, and aborts.
