@@ -1,6 +1,6 @@
 -- One life makes a transaction, once, with one list of participants.
 use Rattle.std.proofs.Common.{◌≡◌, ℕ, ◌+◌, ◌*◌, ◌^◌, ◌<◌, ◌≤◌, ◌&&◌, ◌||◌, ◌==◌, eqb-true, Bool, true, false, cond, nat_lt, List, [], ◌∷◌, ◌++◌, Option, Some, None, is_some, inl, inr, ⊎_elim, refl, sym, ap, ◌∙◌, subst, arith}
-use Rattle.fc_protocol.specs.Agreement.{Agree, SettleOnce, Ready, OnePlan, Settled, SettledWhole, BegunOnce, SaysOnce, Mirrors, FollowsCore, AtRest, Bounded}
+use Rattle.fc_protocol.specs.Agreement.{Agree, SettleOnce, Ready, OnePlan, Settled, SettledWhole, BegunOnce, SaysOnce, SaysDecision, Mirrors, FollowsCore, AtRest, Bounded}
 use Rattle.fc_protocol.specs.Collections.{put, among}
 use Rattle.fc_protocol.specs.Core.{Core, moves, start}
 use Rattle.fc_protocol.specs.ElementMachine.{Circumstance}
@@ -17,7 +17,7 @@ use Rattle.fc_protocol.proofs.Facts.{Past, Lives, Named}
 use Rattle.fc_protocol.proofs.Hears.{cond_all}
 use Rattle.fc_protocol.proofs.Calm.{LifeCalm, calm_finishes, all_calm}
 use Rattle.fc_protocol.proofs.Binding.{same_life, fresh_life, may_start_is, first_tied}
-use Rattle.fc_protocol.proofs.Runs.{Bound, run_tied, agrees, settles_once, readies, opens_alike, settled_there, says_apart, begun_run, mirrors, bounded}
+use Rattle.fc_protocol.proofs.Runs.{Bound, run_tied, agrees, settles_once, readies, opens_alike, settled_there, says_apart, says_decided, begun_run, mirrors, bounded}
 
 abbrev Alike : Master → Master → Type 0
 Alike m n = (n.epoch ≡ m.epoch) × (n.begun ≡ m.begun)
@@ -303,6 +303,9 @@ module _ (net : Network) (ss : List Step) where
 
   pub says_once_law : SaysOnce world
   says_once_law x p q j k m n = says_apart x (parts_of x world.begun) world (goes x) p q j k m n
+
+  pub says_decision_law : SaysDecision world
+  says_decision_law x p j k m n = says_decided x (parts_of x world.begun) world (goes x) p j k m n
 
   pub follows_core_law : (more : List Step) → FollowsCore world (run more world)
   follows_core_law more x =

@@ -1,10 +1,10 @@
 -- A whole run is moves of the core, and what its facts show.
 use Rattle.std.proofs.Common.{◌≡◌, ℕ, ◌+◌, ◌*◌, ◌^◌, ◌<◌, ◌≤◌, ◌&&◌, true, List, [], ◌∷◌, ◌++◌, Option, Some, None, is_some, inr, ⊎_elim, refl, sym, ap, ◌∙◌, subst, arith}
-use Rattle.fc_protocol.specs.Agreement.{Mirrors, Bounded}
+use Rattle.fc_protocol.specs.Agreement.{decision_of, Mirrors, Bounded}
 use Rattle.fc_protocol.specs.Collections.{among}
 use Rattle.fc_protocol.specs.Core.{Core}
 use Rattle.fc_protocol.specs.ElementMachine.{Circumstance}
-use Rattle.fc_protocol.specs.Jobs.{Job}
+use Rattle.fc_protocol.specs.Jobs.{Job, find}
 use Rattle.fc_protocol.specs.MasterMachine.{last_count, Refusal, begin_refusal, plain_refusal, give_up_refusal, Master}
 use Rattle.fc_protocol.specs.Messages.{Trcomp, Abt, Beat, Unread, Stamp, Message, Setup, Request, Reply, Holds, Tells, Other_up, Other_down, Sent, sent}
 use Rattle.fc_protocol.specs.Trace.{Fact, Opened_at, Prepared_at, Settled_at}
@@ -139,6 +139,16 @@ module _ (x : Txn) (parts : List ℕ) where
       let g : RequestFine x parts (past w u.0) k q n (Abt x) = u.1.sent (sent q k (Request n (Abt x))) b in
       let clash : Some Complete ≡ Some Abort = sym (f.means refl).0 ∙ ap u.0.decided e ∙ (g.means refl).0 in
       cc
+
+  -- what a life says of the end is its decision
+  pub says_decided : (w : World) → Bound w → (p j k : ℕ) (m : Master) (n : Stamp) → w.masters k ≡ Some m → n.life ≡ m.epoch
+      → (In (sent p j (Request n (Trcomp x))) w.sent → decision_of (find x m.jobs) ≡ Some Complete) × (In (sent p j (Request n (Abt x))) w.sent → decision_of (find x m.jobs) ≡ Some Abort)
+  says_decided w u p j k m n e l =
+      let f = master_is x parts (past w u.0) k (w.masters k) m e (u.1.masters k) in
+      let own : decision_of (find x m.jobs) ≡ u.0.decided n.life = sym f.jobs.decided ∙ ap u.0.decided (sym l) in (
+        (λ a. let g : RequestFine x parts (past w u.0) j p n (Trcomp x) = u.1.sent (sent p j (Request n (Trcomp x))) a in own ∙ (g.means refl).0),
+        (λ a. let g : RequestFine x parts (past w u.0) j p n (Abt x) = u.1.sent (sent p j (Request n (Abt x))) a in own ∙ (g.means refl).0),
+      )
 
   -- the world is what the core tells
   pub mirrors : (w : World) (c : Core) → Tied x parts w c → Mirrors x c w

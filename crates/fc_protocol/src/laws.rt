@@ -1,7 +1,7 @@
 //! The laws of the protocol. Each function has no body: what it ensures holds of the definitions in specs/.
 
 ghost use Rattle.std.specs.Prelude.{◌≡◌, ℕ, ◌<◌, List, []};
-ghost use Rattle.fc_protocol.specs.Agreement.{Agree, SettleOnce, Ready, OnePlan, Settled, SettledWhole, BegunOnce, SaysOnce, FollowsCore, AtRest, Bounded};
+ghost use Rattle.fc_protocol.specs.Agreement.{Agree, SettleOnce, Ready, OnePlan, Settled, SettledWhole, BegunOnce, SaysOnce, SaysDecision, FollowsCore, AtRest, Bounded};
 ghost use Rattle.fc_protocol.specs.CleanRound.{CleanRound};
 ghost use Rattle.fc_protocol.specs.Core.{Core, Move, moves, start};
 ghost use Rattle.fc_protocol.specs.CoreLaws.{OneEnd, PreparedBefore, PreparedDecided, ReachedDecided, NoLaterAbort, AnswersStay, EndsStay, DecisionsStay};
@@ -32,6 +32,7 @@ pub fn agreement()
     ensures settled_whole { (n : Network) (steps : List Step) → SettledWhole (run steps (first_world n)) }
     ensures begun_once { (n : Network) (steps : List Step) → BegunOnce (run steps (first_world n)) }
     ensures says_once { (n : Network) (steps : List Step) → SaysOnce (run steps (first_world n)) }
+    ensures says_decision { (n : Network) (steps : List Step) → SaysDecision (run steps (first_world n)) }
     ensures follows_core { (n : Network) (steps more : List Step) → FollowsCore (run steps (first_world n)) (run more (run steps (first_world n))) }
     ensures at_rest { (n : Network) (steps : List Step) → AtRest (run steps (first_world n)) }
     ensures bounded { (n : Network) (steps : List Step) → Bounded (run steps (first_world n)) }
