@@ -11,7 +11,7 @@ use Rattle.fc_protocol.specs.Jobs.{Job, find, is_settled}
 use Rattle.fc_protocol.specs.MasterMachine.{Master, new_master}
 use Rattle.fc_protocol.specs.Messages.{Message, Sent}
 use Rattle.fc_protocol.specs.Records.{state_of}
-use Rattle.fc_protocol.specs.WorldSteps.{Network, World, Step, Open, Deliver, Start, Stop, Begin, Give_up, first_world, run}
+use Rattle.fc_protocol.specs.WorldSteps.{Network, World, Step, Open, Deliver, Start, Stop, Begin, Change, Give_up, first_world, run}
 
 -- the controllers 40000001 and 40000002
 abbrev pub first_controller : ℕ
@@ -52,6 +52,10 @@ claiming = Start 1 1 ∷ Open 1 1 ∷ Open 2 1 ∷ delivers_from 1 12
 -- and begins a transaction of one change at each
 abbrev pub opening_steps : List Step
 opening_steps = claiming ++ Begin 1 (1 ∷ 2 ∷ []) (λ _. 1) ∷ []
+
+-- or sends the second element a plain change
+abbrev pub changing : List Step
+changing = claiming ++ Change 1 2 ∷ []
 
 -- the second controller takes over
 abbrev pub takeover : List Step
