@@ -7,6 +7,8 @@ mod input;
 mod replies;
 mod report;
 mod settings;
+#[cfg(test)]
+mod tests;
 
 pub use element::Element;
 pub use input::{ElIn, Out};
