@@ -1,11 +1,10 @@
 -- Reading never gives want of memory: each fault that it gives has its place.
-use Rattle.std.proofs.Common.{◌≡◌, ℕ, zero, suc, ◌+◌, ◌*◌, ◌/◌, ◌^◌, List, [], ◌∷◌, length, drop, Bool, true, false, ◌==◌, ◌&&◌, ◌||◌, not, cond, nat_lt, Option, Some, None, Result, Ok, Err, refl, subst}
+use Rattle.std.proofs.Common.{◌≡◌, ℕ, zero, suc, ◌+◌, ◌*◌, ◌/◌, ◌^◌, List, [], ◌∷◌, length, drop, Bool, true, false, ◌==◌, ◌||◌, not, cond, nat_lt, Option, Some, None, Result, Ok, Err, refl, subst}
 use Rattle.fc_wire.specs.Bytes.{u16_at, u32_at}
 use Rattle.fc_wire.specs.Tlvs.{TlvItem, tlvs}
 use Rattle.fc_wire.specs.Ilvs.{IlvItem, ilvs}
 use Rattle.fc_wire.specs.declared.header.WireFault.{WireFault}
 use Rattle.fc_wire.specs.declared.header.WireFault.TheVariants as wire
-use Rattle.fc_wire.specs.declared.ilvs.Ilv.{Ilv}
 use Rattle.fc_path.specs.Kinds.{is_known, in_select, operation_of, holds_selects}
 use Rattle.fc_path.specs.Stray.{◌>>=◌, misplaced, beside, trailing, shut}
 use Rattle.fc_path.specs.Reading.{each_in, some_in, single, full_at, outcome_at, sparse_in, sparse_at, key_at, leaf_at, path_or, nested_in, body_in, content_in, numbers, path_at, operation_at, oper_by, oper_at, select_at, end_of}
@@ -15,7 +14,6 @@ use Rattle.fc_path.specs.declared.kinds.Operation.{Operation}
 use Rattle.fc_path.specs.declared.kinds.Operation.TheVariants as operation
 use Rattle.fc_path.specs.declared.oper.OperKind.{OperKind}
 use Rattle.fc_path.specs.declared.oper.Oper.{Oper}
-use Rattle.fc_path.specs.declared.oper.Select.{Select}
 use Rattle.fc_path.specs.declared.path.Body.{Body}
 use Rattle.fc_path.specs.declared.path.Key.{Key}
 use Rattle.fc_path.specs.declared.path.PathData.{PathData, roll-PathData}

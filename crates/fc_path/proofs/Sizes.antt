@@ -1,6 +1,6 @@
 -- How many bytes the response of results alone has.
-use Rattle.std.proofs.Common.{◌≡◌, ℕ, zero, suc, ◌+◌, ◌-◌, ◌*◌, ◌/◌, ◌%◌, ◌<◌, ◌≤◌, ◌^◌, ◌&&◌, Bool, true, false, nat_lt, List, [], ◌∷◌, ◌++◌, length, take, drop, map, get_or, Option, Some, None, refl, sym, ap, ◌∙◌, subst, arith, rules, length-append, append_assoc, append-nil}
-use Rattle.std.proofs.lemmas.List.{take_more, map-append, length-replicate, take-append-drop}
+use Rattle.std.proofs.Common.{◌≡◌, ℕ, zero, suc, ◌+◌, ◌-◌, ◌*◌, ◌/◌, ◌%◌, ◌<◌, ◌≤◌, ◌&&◌, Bool, true, false, nat_lt, List, [], ◌∷◌, ◌++◌, length, take, map, get_or, Option, Some, None, refl, sym, ap, ◌∙◌, subst, arith, rules, length-append, append-nil}
+use Rattle.std.proofs.lemmas.List.{take_more, map-append, length-replicate}
 use Rattle.std.specs.List.{flat_map}
 use Rattle.fc_wire.specs.Bytes.{u16_bytes, u32_bytes}
 use Rattle.fc_wire.specs.Writing.{tlv_bytes, padding}
@@ -8,7 +8,7 @@ use Rattle.fc_wire.specs.declared.ilvs.Ilv.{Ilv}
 use Rattle.fc_wire.proofs.ItemLaws.{tlv_length}
 use Rattle.fc_path.specs.Kinds.{number_of}
 use Rattle.fc_path.specs.Canon.{Written, plain, after, joined, wrapped, result_written, key_written, key_flags, body_written, path_written, path_step, oper_written, select_written}
-use Rattle.fc_path.specs.Results.{path_results, body_results, oper_results, select_with, select_results, results_written, results_fit, response_kind, Sized, Held}
+use Rattle.fc_path.specs.Results.{path_results, body_results, oper_results, select_with, select_results, results_fit, response_kind, Sized, Held}
 use Rattle.fc_path.specs.declared.oper.OperKind.{OperKind}
 use Rattle.fc_path.specs.declared.oper.Oper.{Oper}
 use Rattle.fc_path.specs.declared.oper.Oper.TheVariants as oper
@@ -17,7 +17,7 @@ use Rattle.fc_path.specs.declared.path.Key.{Key}
 use Rattle.fc_path.specs.declared.path.PathData.{PathData, roll-PathData}
 use Rattle.fc_path.specs.declared.path.Body.{Body, the_lemmas}
 use Rattle.fc_path.specs.declared.path.Body.TheVariants as v
-use Rattle.fc_path.proofs.Closing.{and_left, and_right, both_true, path_is, nested_is, joined_fails, joined_after, joined_fits, and_assoc}
+use Rattle.fc_path.proofs.Closing.{and_left, and_right, both_true, path_is, nested_is, joined_fails, joined_after, joined_fits}
 use Rattle.fc_path.proofs.Complete.{ids_length}
 use Rattle.fc_path.proofs.InGrammar.{joined_whole, path_whole, oper_whole, key_whole, body_whole, outcome_is}
 

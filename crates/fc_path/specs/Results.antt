@@ -1,8 +1,8 @@
 -- The response of results alone to selects: the same selects and path trees with a RESULT in each leaf. COMMIT becomes
 -- COMMIT-RESPONSE, TRCOMP is left out, and so is a select that is left empty. RFC 5810, section 7.1.5, in this profile.
-use Rattle.std.specs.Prelude.{◌≡◌, ◌<◌, ℕ, ◌+◌, ◌&&◌, Bool, true, false, nat_lt, List, [], ◌∷◌, ◌++◌, length, map, Option, Some, None}
+use Rattle.std.specs.Prelude.{◌≡◌, ◌<◌, ℕ, ◌&&◌, Bool, true, false, nat_lt, List, [], ◌∷◌, length, map, Option, Some, None}
 use Rattle.std.specs.List.{flat_map}
-use Rattle.fc_path.specs.Canon.{Written, joined, path_written, oper_written, select_written}
+use Rattle.fc_path.specs.Canon.{Written, joined, select_written}
 use Rattle.fc_path.specs.declared.oper.OperKind.{OperKind}
 use Rattle.fc_path.specs.declared.oper.OperKind.TheVariants as kinds
 use Rattle.fc_path.specs.declared.oper.Oper.{Oper}

@@ -18,12 +18,13 @@ pub fn selects_are_unique()
 {}
 
 /// Reading gives a select exactly where the TLV is that select, and so each TLV either is exactly one select, or has
-/// exactly one fault, which has a place, and is none.
+/// exactly one fault, which has a place, and is none. A select that a TLV is, is proper.
 pub fn reading_is_the_grammar()
     ensures same { (message : ℕ) (tlv : TlvItem) (s : Select) → Lent tlv → AreBytes tlv.padded →
         (IsSelectOf message s tlv → select_at message tlv ≡ Ok s) × (select_at message tlv ≡ Ok s → IsSelectOf message s tlv) }
     ensures either { (message : ℕ) (tlv : TlvItem) → Lent tlv → AreBytes tlv.padded →
         ((s : Select) × IsSelectOf message s tlv) ⊎ ((fault : PathFault) × (select_at message tlv ≡ Err fault) × ((s : Select) → IsSelectOf message s tlv → ⊥)) }
+    ensures proper { (message : ℕ) (tlv : TlvItem) (s : Select) → IsSelectOf message s tlv → ProperSelect message s }
     ensures placed { (message : ℕ) (tlv : TlvItem) → select_at message tlv ≡ Err Memory → ⊥ }
 {}
 

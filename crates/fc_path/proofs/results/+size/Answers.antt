@@ -1,4 +1,4 @@
-use Rattle.std.proofs.Common.{◌≡◌, ◌+◌, ◌*◌, ◌<◌, map, length, Some, None, sym, ap, ◌∙◌, subst, arith}
+use Rattle.std.proofs.Common.{◌+◌, ◌*◌, map, Some, sym, subst, arith}
 use Rattle.fc_path.specs.Canon.{joined, body_written, path_written}
 use Rattle.fc_path.specs.Results.{Held, Sized, body_results, path_results}
 use Rattle.fc_path.proofs.Sizes.{nothing_held, full_held, sparse_held, outcome_held, nested_held, path_many, path_body_fails, path_over, path_sized, held_over, held_fails, held_more}

@@ -1,4 +1,4 @@
-use Rattle.std.proofs.Common.{◌≡◌, ◌+◌, ◌<◌, map, take, length, Some, None, subst, sym, arith}
+use Rattle.std.proofs.Common.{map, Some, subst, arith}
 use Rattle.std.proofs.lemmas.List.{take_all}
 use Rattle.fc_path.specs.Canon.{joined}
 use Rattle.fc_path.specs.Results.{Held}

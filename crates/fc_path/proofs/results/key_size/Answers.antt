@@ -1,4 +1,4 @@
-use Rattle.std.proofs.Common.{◌≡◌, ◌+◌, ◌*◌, ◌/◌, length, Some, None, sym, ap, ◌∙◌, subst, arith}
+use Rattle.std.proofs.Common.{◌+◌, ◌*◌, ◌/◌, length, Some, None, sym, subst, arith}
 use Rattle.fc_path.specs.Canon.{key_written}
 use Rattle.fc_path.specs.Results.{Sized}
 use Rattle.fc_path.proofs.Sizes.{key_over, key_sized}

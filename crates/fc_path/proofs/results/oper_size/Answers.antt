@@ -1,4 +1,4 @@
-use Rattle.std.proofs.Common.{◌≡◌, ◌+◌, map, Some, None, sym, subst}
+use Rattle.std.proofs.Common.{◌+◌, map, Some, None, sym, subst}
 use Rattle.fc_path.specs.Canon.{joined, path_written}
 use Rattle.fc_path.specs.Results.{Held, Sized, path_results}
 use Rattle.fc_path.proofs.Sizes.{oper_part, paths_part, paths_part_fails, commit_part}

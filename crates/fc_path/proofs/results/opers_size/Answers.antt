@@ -1,4 +1,4 @@
-use Rattle.std.proofs.Common.{◌≡◌, ◌+◌, ◌<◌, map, Some, None, arith}
+use Rattle.std.proofs.Common.{arith}
 use Rattle.fc_path.proofs.Sizes.{oper_part, held_over, held_fails, held_more}
 use Rattle.fc_path.proofs.results.opers_size.Goals as goal
 

@@ -1,6 +1,6 @@
-use Rattle.std.proofs.Common.{◌≡◌, ◌+◌, ◌<◌, map, Some, None, sym, subst, arith}
+use Rattle.std.proofs.Common.{map, Some, None, subst}
 use Rattle.fc_path.specs.Canon.{joined}
-use Rattle.fc_path.specs.Results.{Held, Sized}
+use Rattle.fc_path.specs.Results.{Held}
 use Rattle.fc_path.proofs.Sizes.{oper_part, select_none, select_zero, select_over, select_some, positive}
 use Rattle.fc_path.proofs.results.select_size.Goals as goal
 
