@@ -1,5 +1,5 @@
 // Tables of declarations and what the check says of them.
-ghost use Rattle.std.specs.Prelude.{◌≡◌, ◌<◌, true, IfOk, map};
+ghost use Rattle.std.specs.Prelude.{◌≡◌, ◌<◌, ◌≤◌, true, IfOk, map};
 ghost use Rattle.std.specs.List.{list_all};
 ghost use Rattle.fc_types.specs.BuiltIn.{built_in_ids};
 ghost use Rattle.fc_types.specs.Classes.{class_keeps};
@@ -7,8 +7,8 @@ ghost use Rattle.fc_types.specs.Libraries.{AreKnown, KeepRules, class_id, is_own
 ghost use Rattle.fc_types.specs.declared.class_rules.ClassRule.{ClassRule};
 
 use crate::{
-    CheckFault, Class, Component, EventDecl, Field, Instances, KeyDecl, Library, MASTERSHIP, Ty,
-    When, is_live,
+    CheckFault, Class, Component, EventDecl, Field, Identified, Instances, KeyDecl, Library,
+    MASTERSHIP, Ty, When, is_live, target_type,
 };
 use fc_base::{Boxed, Duplicate, List, Memory, Text};
 use std::alloc::Global;
@@ -41,7 +41,11 @@ fn pair(alloc: Global, first: (u32, Ty), second: (u32, Ty)) -> Result<Ty, Memory
 }
 
 fn field(alloc: Global, id: u32, ty: Ty) -> Result<Field, Memory> {
-    let name = Text::from_str(alloc, "field")?;
+    named_field(alloc, id, "field", ty)
+}
+
+fn named_field(alloc: Global, id: u32, name: &str, ty: Ty) -> Result<Field, Memory> {
+    let name = Text::from_str(alloc, name)?;
     Ok(Field { id, name, ty })
 }
 
@@ -90,12 +94,26 @@ fn key(alloc: Global, id: u32, fields: &[u32]) -> Result<KeyDecl, Memory> {
 fn component(alloc: Global, id: u32, ty: Ty, optional: bool) -> Result<Component, Memory>
     requires { 0 < id }
 {
-    let name = Text::from_str(alloc, "component")?;
+    named_component(alloc, (id, "component"), ty, 3, optional)
+}
+
+fn named_component(
+    alloc: Global,
+    label: (u32, &str),
+    ty: Ty,
+    access: u8,
+    optional: bool,
+) -> Result<Component, Memory>
+    requires id { 0 < label.0 }
+    requires access { access ≤ 3 }
+{
+    let (id, name) = label;
+    let name = Text::from_str(alloc, name)?;
     Ok(Component {
         id,
         name,
         ty,
-        access: 3,
+        access,
         optional,
     })
 }
@@ -312,14 +330,34 @@ fn ids_of_a_class(rt: HostRuntime) -> Result<(), Fail> {
     Ok(())
 }
 
-// A type that is too deep, out of range or a key that is made of nothing, by the fault that it has, and one without fault.
+// A struct of so many fields, all with the same ID.
+fn crowd(alloc: Global, count: u32) -> Result<Ty, Memory> {
+    let mut fields = List::new(alloc);
+    for _ in 0..count {
+        fields.push(field(alloc, 1, Ty::Bool)?)?;
+    }
+    Ok(Ty::Struct { fields })
+}
+
+// A type with too many fields, too deep, out of range or with a key that is made of nothing, by the fault that it has, and
+// one without fault.
 fn flawed(alloc: Global, flaw: Option<CheckFault>) -> Result<Ty, Memory> {
     match flaw {
+        Some(CheckFault::TooMany) => crowd(alloc, 1024),
         Some(CheckFault::TooDeep) => nested(alloc, 8),
         Some(CheckFault::BadRange) => Ok(Ty::Bytes { length: 0 }),
         Some(CheckFault::KeyNotAtomic) => keyed(alloc, 2, &[]),
         _ => Ok(text()),
     }
+}
+
+// A class with a component of such a type, or with an event without a target.
+fn flawed_class(alloc: Global, id: u32, flaw: Option<CheckFault>) -> Result<Class, Memory> {
+    let mut one = class(alloc, id, flawed(alloc, flaw)?)?;
+    if flaw == Some(CheckFault::BadTarget) {
+        one.events.push(event(alloc, 1, When::Changed, &[])?)?;
+    }
+    Ok(one)
 }
 
 // Classes 7 and another, with these flaws.
@@ -330,8 +368,8 @@ fn two_classes(
     other_flaw: Option<CheckFault>,
 ) -> Result<Vec<Class>, Memory> {
     let mut classes = Vec::new(alloc);
-    classes.push(class(alloc, 7, flawed(alloc, flaw)?)?)?;
-    classes.push(class(alloc, other, flawed(alloc, other_flaw)?)?)?;
+    classes.push(flawed_class(alloc, 7, flaw)?)?;
+    classes.push(flawed_class(alloc, other, other_flaw)?)?;
     Ok(classes)
 }
 
@@ -354,13 +392,16 @@ fn the_first_of_two_faults(rt: HostRuntime) -> Result<(), Fail> {
         CheckFault::BadRange,
         CheckFault::KeyNotAtomic,
     );
-    let (double, unknown) = (CheckFault::DuplicateId, CheckFault::UnknownClass);
+    let (many, double) = (CheckFault::TooMany, CheckFault::DuplicateId);
+    let (target, unknown) = (CheckFault::BadTarget, CheckFault::UnknownClass);
     for (flaw, other, other_flaw, one, last, fault) in [
         (None, 8, None, (7, 1), (8, 1), None),
+        (Some(many), 7, None, (7, 1), (7, 2), Some(many)),
         (None, 7, Some(deep), (7, 1), (7, 2), Some(double)),
         (Some(range), 8, Some(deep), (7, 1), (7, 2), Some(deep)),
         (Some(key), 8, Some(range), (7, 1), (7, 2), Some(range)),
-        (Some(key), 8, None, (7, 1), (9, 1), Some(key)),
+        (Some(target), 8, Some(key), (7, 1), (7, 2), Some(key)),
+        (Some(target), 8, None, (7, 1), (9, 1), Some(target)),
         (None, 8, None, (9, 1), (9, 1), Some(unknown)),
         (None, 8, None, (7, 1), (1, 1), Some(unknown)),
         (None, 8, None, (7, 1), (7, 1), Some(double)),
@@ -416,13 +457,77 @@ fn limits_of_counts(rt: HostRuntime) -> Result<(), Fail> {
     Ok(())
 }
 
-// A library of ports, with a table of them that has a key.
+fn push_field(fields: &mut List<Field>, id: u32, name: &str, ty: Ty) -> Result<(), Memory> {
+    let field = named_field(fields.alloc(), id, name, ty)?;
+    fields.push(field)
+}
+
+// Up to four ports, which are told apart by their names.
+fn port_table(alloc: Global) -> Result<Ty, Memory> {
+    let mut fields = List::new(alloc);
+    push_field(&mut fields, 1, "name", Ty::String { length: 16 })?;
+    push_field(&mut fields, 2, "rate", word())?;
+    push_field(&mut fields, 3, "up", Ty::Bool)?;
+    keyed_array(alloc, 4, Ty::Struct { fields })
+}
+
+// An array of so many entries, with a key 1 of their field 1.
+fn keyed_array(alloc: Global, entries: u32, entry: Ty) -> Result<Ty, Memory> {
+    let mut keys = List::new(alloc);
+    keys.push(key(alloc, 1, &[1])?)?;
+    Ok(Ty::Array {
+        entry: Boxed::new(alloc, entry)?,
+        entries,
+        keys,
+    })
+}
+
+fn push_component(
+    components: &mut List<Component>,
+    label: (u32, &str),
+    ty: Ty,
+    access: u8,
+    optional: bool,
+) -> Result<(), Memory>
+    requires id { 0 < label.0 }
+    requires access { access ≤ 3 }
+{
+    let component = named_component(components.alloc(), label, ty, access, optional)?;
+    components.push(component)
+}
+
+fn port_components(alloc: Global) -> Result<List<Component>, Memory> {
+    let mut all = List::new(alloc);
+    push_component(&mut all, (1, "speed"), number(4, false, 0, 1000), 3, false)?;
+    push_component(&mut all, (2, "mtu"), number(4, false, 0, 9000), 3, false)?;
+    push_component(&mut all, (3, "queue"), word(), 3, false)?;
+    push_component(&mut all, (4, "ports"), port_table(alloc)?, 3, false)?;
+    push_component(&mut all, (5, "note"), text(), 3, true)?;
+    push_component(&mut all, (6, "serial"), word(), 1, false)?;
+    Ok(all)
+}
+
+// A class of ports, with an event on their speed.
 fn port(alloc: Global) -> Result<Class, Memory> {
-    let mut port = class(alloc, 0x1001, number(4, false, 0, 1000))?;
-    port.components
-        .push(component(alloc, 4, keyed(alloc, 2, &[1])?, false)?)?;
-    port.events.push(event(alloc, 1, When::Greater, &[1])?)?;
-    Ok(port)
+    let components = port_components(alloc)?;
+    let mut fast = event(alloc, 1, When::Greater, &[1])?;
+    fast.name = Text::from_str(alloc, "fast")?;
+    let mut events = List::new(alloc);
+    events.push(fast)?;
+    Ok(Class {
+        id: 0x1001,
+        name: Text::from_str(alloc, "Port")?,
+        components,
+        event_base: 60,
+        events,
+    })
+}
+
+// Three instances of it, not in their order.
+fn port_instances(alloc: Global) -> Result<Vec<(u32, u32)>, Memory> {
+    let mut pairs = two_instances(alloc, (0x1001, 3), (0x1001, 1))?;
+    pairs.push((0x1001, 2))?;
+    Ok(pairs)
 }
 
 fn ports(alloc: Global) -> Result<(Library, Instances), CheckFault>
@@ -436,18 +541,40 @@ fn ports(alloc: Global) -> Result<(Library, Instances), CheckFault>
     if classes.push(port).is_err() {
         return Err(CheckFault::Memory);
     }
-    let Ok(pairs) = two_instances(alloc, (0x1001, 3), (0x1001, 1)) else {
+    let Ok(pairs) = port_instances(alloc) else {
         return Err(CheckFault::Memory);
     };
     Library::check(classes, pairs)
 }
 
+// Whether these are the IDs, in this order.
+fn are_ids<T: Identified>(items: &[T], ids: &[u32]) -> bool {
+    items.len() == ids.len() && items.iter().zip(ids).all(|(item, id)| item.id() == *id)
+}
+
+fn is_speed(ty: Option<&Ty>) -> bool {
+    matches!(ty, Some(Ty::Number { max: 1000, .. }))
+}
+
+// Whether this is the class of ports, where a target may be the speed, and nothing in the table or optional.
+fn is_port(class: &Class) -> bool {
+    let components = class.components.as_slice();
+    are_ids(components, &[1, 2, 3, 4, 5, 6])
+        && are_ids(class.events.as_slice(), &[1])
+        && is_speed(target_type(components, &[1]))
+        && target_type(components, &[4, 2]).is_none()
+        && target_type(components, &[5]).is_none()
+}
+
 #[test]
 fn ports_in_order(rt: HostRuntime) -> Result<(), Fail> {
     let (library, instances) = ports(rt.alloc())?;
-    assert!(rt; instances.copy()?.pairs() == [(0x1001, 1), (0x1001, 3)].as_slice());
-    for class in library.copy()?.classes() {
-        assert_eq!(rt; class.components.len(), 3);
+    let pairs = [(0x1001, 1), (0x1001, 2), (0x1001, 3)];
+    assert!(rt; instances.copy()?.pairs() == pairs.as_slice());
+    let library = library.copy()?;
+    assert!(rt; are_ids(library.classes(), &[0x1001]));
+    for class in library.classes() {
+        assert!(rt; is_port(class));
     }
     for (ident, live) in [(1, true), (6, false), (7, true), (8, false)] {
         assert_eq!(rt; is_live(MASTERSHIP, ident), live);
@@ -486,8 +613,15 @@ fn ports_with_the_built_in_classes(rt: HostRuntime) -> Result<(), Fail> {
     let alloc = rt.alloc();
     let (library, instances) = ports(alloc)?;
     let (library, instances) = library.with_built_in(instances, bare_classes(alloc)?)?;
-    assert_eq!(rt; library.classes().len(), 4);
-    let pairs = [(1, 1), (2, 1), (0x1001, 1), (0x1001, 3), (MASTERSHIP, 1)];
+    assert!(rt; are_ids(library.classes(), &[0x1001, 1, 2, MASTERSHIP]));
+    let pairs = [
+        (1, 1),
+        (2, 1),
+        (0x1001, 1),
+        (0x1001, 2),
+        (0x1001, 3),
+        (MASTERSHIP, 1),
+    ];
     assert!(rt; instances.pairs() == pairs.as_slice());
     Ok(())
 }
