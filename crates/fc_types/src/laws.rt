@@ -4,7 +4,7 @@ ghost use Rattle.std.specs.List.{AllByRecursion, AllPairs, list_all};
 ghost use Rattle.fc_types.specs.Ids.{is_distinct};
 ghost use Rattle.fc_types.specs.Sound.{IsSound, SoundLayer};
 ghost use Rattle.fc_types.specs.Types.{field_ty, inside, is_atom, nests, throughout};
-ghost use Rattle.fc_types.specs.Libraries.{IsLibrary, first_broken};
+ghost use Rattle.fc_types.specs.Libraries.{IsLibrary, first_broken, same_instance};
 ghost use Rattle.fc_types.specs.declared.class.Class.{Class};
 ghost use Rattle.fc_types.specs.declared.fault.CheckFault.{CheckFault};
 ghost use Rattle.fc_types.specs.declared.ty.Field.{Field};
@@ -45,8 +45,10 @@ pub fn first_fault_is_first()
     ensures kept { (rules : List (Bool × CheckFault)) → first_broken rules ≡ None → list_all (λ rule. rule.0) rules ≡ true }
 {}
 
-/// IDs are different where no two places have the same one.
+/// IDs are different where no two places have the same one, and so are instances.
 pub fn different_ids()
     ensures apart { (ids : List ℕ) → is_distinct nat_eq ids ≡ true → AllPairs (λ id other. id ≢ other) ids }
     ensures told { (ids : List ℕ) → AllPairs (λ id other. id ≢ other) ids → is_distinct nat_eq ids ≡ true }
+    ensures instances_apart { (pairs : List (ℕ × ℕ)) → is_distinct same_instance pairs ≡ true → AllPairs (λ p q. p ≢ q) pairs }
+    ensures instances_told { (pairs : List (ℕ × ℕ)) → AllPairs (λ p q. p ≢ q) pairs → is_distinct same_instance pairs ≡ true }
 {}
