@@ -90,31 +90,31 @@ impl Library {
     pub fn with_built_in(
         self,
         instances: Instances,
-        own: Vec<Class>,
+        built_in: Vec<Class>,
     ) -> Result<(Library, Instances), Memory>
-        requires ids { map class_id own.items ≡ built_in_ids }
-        requires kept { KeepRules own.items }
+        requires ids { map class_id built_in.items ≡ built_in_ids }
+        requires kept { KeepRules built_in.items }
         requires absent { list_all is_own self ≡ true }
         requires known { AreKnown self instances }
-        ensures classes { IfOk result (λ r. r.0 ≡ self ++ own.items) }
+        ensures classes { IfOk result (λ r. r.0 ≡ self ++ built_in.items) }
         ensures instances { IfOk result (λ r. IsPermutation (instances ++ built_in_instances) r.1) }
         ensures rules { IfOk result (λ r. IsLibrary r.0) }
         ensures order { IfOk result (λ r. AreInstances r.1) }
         ensures known { IfOk result (λ r. AreKnown r.0 r.1) }
     {
         let instances = instances.with_built_in()?;
-        let library = self.with(own)?;
+        let library = self.with(built_in)?;
         Ok((library, instances))
     }
 
     // The library with more classes.
-    fn with(self, own: Vec<Class>) -> Result<Library, Memory>
-        requires { IsLibrary (self ++ own.items) }
-        ensures { IfOk result (λ r. r ≡ self ++ own.items) }
+    fn with(self, more: Vec<Class>) -> Result<Library, Memory>
+        requires { IsLibrary (self ++ more.items) }
+        ensures { IfOk result (λ r. r ≡ self ++ more.items) }
     {
         let Library { classes } = self;
         let mut classes = classes;
-        for class in own {
+        for class in more {
             classes.push(class)?;
         }
         Ok(Library { classes })

@@ -7,9 +7,9 @@ pub with_built_in-requires : goal.with_built_in-requires
 with_built_in-requires c = own_pairs c.args.self c.args.instances c.requires.absent c.requires.known
 
 pub with-requires : goal.with-requires
-with-requires c = library_with c.args.self c.args.own.items (subst IsLibrary c.self.view_is c.self.invariant) c.requires.ids c.requires.kept c.requires.absent
+with-requires c = library_with c.args.self c.args.built_in.items (subst IsLibrary c.self.view_is c.self.invariant) c.requires.ids c.requires.kept c.requires.absent
 
 pub returns-clause-known : goal.returns-clause-known
 returns-clause-known c =
     rw c.in_ok-library.ensures
-    (known_with c.args.self c.args.own.items c.args.instances c.in_ok-instances.instances c.requires.ids c.requires.known c.in_ok-instances.ensures.same)
+    (known_with c.args.self c.args.built_in.items c.args.instances c.in_ok-instances.instances c.requires.ids c.requires.known c.in_ok-instances.ensures.same)
