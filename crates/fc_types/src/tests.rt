@@ -240,6 +240,38 @@ fn arrays_at_their_edges(rt: HostRuntime) -> Result<(), Fail> {
     Ok(())
 }
 
+// An entry that is a text, one that is an array or one that is a struct with octets.
+fn entry(alloc: Global, kind: u32) -> Result<Ty, Memory> {
+    match kind {
+        0 => Ok(Ty::String { length: 5 }),
+        1 => array(alloc, 3, Ty::Bytes { length: 3 }),
+        _ => pair(alloc, (1, Ty::Bool), (2, Ty::Octets { length: 5 })),
+    }
+}
+
+// With its subscript such an entry takes 16, 32 or 17 bytes of an array of at most 65,531 bytes.
+#[test]
+fn entries_that_are_padded(rt: HostRuntime) -> Result<(), Fail> {
+    let alloc = rt.alloc();
+    for (kind, entries, broken) in [
+        (0, 4095, false),
+        (0, 4096, true),
+        (1, 2047, false),
+        (1, 2048, true),
+        (2, 3854, false),
+        (2, 3855, true),
+    ] {
+        let table = array(alloc, entries, entry(alloc, kind)?)?;
+        let ty = pair(alloc, (1, Ty::Bool), (2, table))?;
+        assert_eq!(rt;
+            fault_of_type(alloc, ty)?,
+            fault_if(broken, CheckFault::BadRange),
+            "{kind} {entries}"
+        );
+    }
+    Ok(())
+}
+
 #[test]
 fn keys_and_ids_inside_types(rt: HostRuntime) -> Result<(), Fail> {
     let alloc = rt.alloc();
