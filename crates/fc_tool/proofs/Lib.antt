@@ -2,11 +2,13 @@ pub mod Acts
 pub mod Bytes
 pub mod Commands
 pub mod Cut
+pub mod Distinct
 pub mod Hearing
 pub mod Holding
 pub mod Judged
 pub mod Looking
 pub mod OpenPeers
+pub mod Pieces
 pub mod Reaching
 pub mod Serving
 pub mod Shows

@@ -4,6 +4,7 @@ pub mod ElementRun
 pub mod Faults
 pub mod Lending
 pub mod Nexts
+pub mod Pieces
 pub mod Places
 pub mod Run
 pub mod Show

@@ -5,6 +5,11 @@ ghost use Rattle.fc_wire.specs.declared.header.Header.{Header};
 ghost use Rattle.fc_wire.specs.Frames.{Frames, IsFrame, IsPartial, frame_len, joined};
 ghost use Rattle.fc_tool.specs.declared.faults.Fault.{Fault};
 ghost use Rattle.fc_tool.specs.declared.show.Shown.{Shown};
+ghost use Rattle.fc_hub.specs.declared.event.HubEvent.{HubEvent};
+ghost use Rattle.fc_hub.specs.declared.event.HubEvent.TheVariants.{Bytes};
+ghost use Rattle.fc_tool.specs.ElementNode.{NodeState, first_node, frames, node_after, node_step, rest};
+ghost use Rattle.fc_tool.specs.Pieces.{AreAlike};
+ghost use Rattle.fc_tool.specs.Places.{AreDistinct};
 ghost use Rattle.fc_tool.specs.Faults.{IsHeartbeat, fault_of};
 ghost use Rattle.fc_tool.specs.Show.{AreHeartbeats, IsVerdict, ShowEnds, text_of};
 ghost use Rattle.fc_tool.specs.Splitting.{Call, after_calls, fed, unfed};
@@ -34,4 +39,21 @@ pub fn text_is_unique()
 pub fn input_ends_once()
     ensures { (e f : Shown) (limit : ℕ) (bytes : List ℕ) (l k o p n m : Option (List ℕ)) → IsVerdict e → IsVerdict f
         → ShowEnds limit (Ok e) (Some bytes) l o n → ShowEnds limit (Ok f) (Some bytes) k p m → e ≡ f }
+{}
+
+/// Bytes of a peer that come in two pieces make the same of a node as the whole, wherever they are cut: the same acts in
+/// the same order, and the same node afterwards.
+pub fn bytes_may_be_cut()
+    ensures { (n : NodeState) (peer : ℕ) (front back : List ℕ) → AreDistinct n.peers
+        → AreAlike (node_step n (Bytes peer front)) (node_step (node_step n (Bytes peer front)).state (Bytes peer back)) (node_step n (Bytes peer (front ++ back))) }
+{}
+
+/// Whatever events a node takes, each peer is open once at most.
+pub fn peers_are_distinct()
+    ensures { (id ce : ℕ) (events : List HubEvent) → AreDistinct (node_after (first_node id ce) events).peers }
+{}
+
+/// The frames that a node takes of the bytes of a peer are those of the stream, and less than one is left.
+pub fn node_takes_the_frames()
+    ensures { (bytes : List ℕ) → Frames bytes (frames bytes) (rest bytes) }
 {}

@@ -1,4 +1,6 @@
-ghost use Rattle.std.specs.Prelude.{ℕ, None};
+ghost use Rattle.std.specs.Prelude.{◌≡◌, ℕ, None};
+ghost use Rattle.std.specs.List.{list_all};
+ghost use Rattle.fc_hub.specs.Hubs.{is_given};
 
 use crate::run;
 use crate::splitter::Splitter;
@@ -336,6 +338,28 @@ const ANSWER: [u8; 24] = [
 
 const REPORT: &str = "element 2 epoch 0 ce 40000001 sequence 0\n";
 
+// Whether a hub may tell each of these events.
+fn are_given(events: &[HubEvent]) -> bool
+    ensures { result ≡ list_all is_given events.now }
+{
+    'events: for event in events {
+        if !is_given(event) {
+            return false;
+        }
+    }
+    true
+}
+
+fn is_given(event: &HubEvent) -> bool
+    ensures { result ≡ is_given event.now }
+{
+    match event {
+        HubEvent::Bytes(_, bytes) => bytes.len() > 0,
+        HubEvent::Over => false,
+        _ => true,
+    }
+}
+
 fn bytes_event(alloc: Global, peer: u32, bytes: &[u8]) -> Result<HubEvent, Fail> {
     Ok(HubEvent::Bytes(peer, Octets::from_slice(alloc, bytes)?))
 }
@@ -359,6 +383,9 @@ fn ran(
     let words = words(alloc, line)?;
     let mut input = SureSource::new(input, 4096);
     let mut out = SureSink::new(alloc);
+    if !are_given(events.as_slice()) {
+        return Err(Fail::from("no hub tells these events"));
+    }
     let mut hub = SureHub::new(alloc, events);
     let status = run(alloc, words.as_slice(), &mut input, &mut out, &mut hub);
     Ok((status, Vec::from_slice(alloc, out.bytes())?, hub))
@@ -494,7 +521,11 @@ fn each_call_of_the_hub_fails_in_turn(rt: HostRuntime) -> Result<(), Fail> {
         failing.push(call)?;
         let mut input = SureSource::new(Vec::new(alloc), 1);
         let mut out = SureSink::new(alloc);
-        let mut hub = MemHub::new(alloc, greeting(alloc)?, failing);
+        let events = greeting(alloc)?;
+        if !are_given(events.as_slice()) {
+            return Err(Fail::from("no hub tells these events"));
+        }
+        let mut hub = MemHub::new(alloc, events, failing);
         let status = run(alloc, words.as_slice(), &mut input, &mut out, &mut hub);
         assert_eq!(rt; status, if call < 7 { 4 } else { 0 }, "at {call}");
         let done = if call < 3 {
