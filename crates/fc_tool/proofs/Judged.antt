@@ -1,5 +1,5 @@
 -- Bytes that are a frame or less are a heartbeat, or break a rule.
-use Rattle.std.proofs.Common.{◌≡◌, ◌≤◌, ℕ, ◌/◌, ◌%◌, ◌^◌, ◌==◌, List, length, slice_index, arith, refl, ◌⊎◌, inl, inr, ◌∙◌, Option, None, Some}
+use Rattle.std.proofs.Common.{◌≡◌, ◌≤◌, ℕ, ◌/◌, List, length, slice_index, arith, refl, ◌⊎◌, inl, inr, ◌∙◌, Option, None, Some}
 use Rattle.std.proofs.lemmas.Bool.Decides.{nat_tests}
 use Rattle.fc_wire.proofs.Unique.{header_exists}
 use Rattle.fc_wire.specs.Bytes.{u16_at}

@@ -1,11 +1,10 @@
 -- Bytes that come in two pieces: the frames of both, what they make of an element, and of a node.
-use Rattle.std.proofs.Common.{◌≡◌, ◌≤◌, ◌<◌, ℕ, zero, suc, ◌==◌, List, [], ◌∷◌, ◌++◌, length, take, drop, Bool, true, false, nat_lt, if◌then◌else◌, refl, sym, subst, ap, ◌∙◌, arith, inl, inr, append_assoc, append-nil, length-append, Option, Some, None}
+use Rattle.std.proofs.Common.{◌≡◌, ◌≤◌, ◌<◌, ℕ, zero, suc, ◌==◌, List, [], ◌∷◌, ◌++◌, length, take, drop, Bool, true, false, if◌then◌else◌, refl, sym, subst, ap, ◌∙◌, arith, inl, inr, append_assoc, append-nil, length-append, Option, Some, None}
 use Rattle.std.proofs.lemmas.Bool.{cases_lt}
 use Rattle.std.proofs.lemmas.Bool.Decides.{nat_tests}
 use Rattle.std.proofs.lemmas.List.{length-drop, take-append-drop, take-append-le, drop-append-le, get_or_append_left}
 use Rattle.fc_wire.specs.Frames.{Frames, frame_len, joined}
 use Rattle.fc_wire.proofs.Cutting.{cut_frame}
-use Rattle.fc_hub.specs.declared.event.HubEvent.{HubEvent}
 use Rattle.fc_hub.specs.declared.event.HubEvent.TheVariants as event
 use Rattle.fc_hub.specs.declared.event.Act.{Act}
 use Rattle.fc_msg.specs.declared.message.Message.{Message}
@@ -14,7 +13,7 @@ use Rattle.fc_element.specs.declared.input.ElIn.TheVariants.{Arrived}
 use Rattle.fc_element.specs.ElementMachine.{Turn, step}
 use Rattle.fc_element.specs.ElementState.{ElementState}
 use Rattle.fc_tool.specs.declared.peers.Peer.{Peer}
-use Rattle.fc_tool.specs.ElementNode.{Heard, Move, NodeState, Cut, after_heard, by_message, cut, cut_of, first_heard, first_node, frames, heard, hears, in_front, left_of, move, node, node_after, node_step, on_bytes, on_closed, on_opened, peer_with, put_left, rest, sent, without}
+use Rattle.fc_tool.specs.ElementNode.{Heard, Move, NodeState, Cut, after_heard, by_message, cut, cut_of, first_heard, frames, heard, hears, in_front, left_of, move, node, node_step, on_bytes, put_left, rest, sent, without}
 use Rattle.fc_tool.specs.Places.{AreDistinct, StandsNowhere}
 use Rattle.fc_tool.specs.Pieces.{AreAlike}
 use Rattle.fc_tool.proofs.Cut.{cut_partial, cut_whole}
