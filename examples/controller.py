@@ -1,7 +1,6 @@
-#!/usr/bin/env python3
 """A control element of a few lines: it associates with one forwarding element, asks it for a heartbeat, and hangs up.
 
-Use: examples/controller.py HOST PORT
+Use: python3 examples/controller.py HOST PORT
 
 It needs Python's standard library alone. The element that it talks to is started as
 `crates/forces/out/forces element 2 40000001 HOST:PORT 1 100 < /dev/null`.
