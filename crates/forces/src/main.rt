@@ -54,11 +54,5 @@ fn main(rt: HostRuntime) -> ExitCode {
     };
     let mut input = StdSource::new(rt.reader());
     let mut out = StdSink::new(io::writer(&rt));
-    ExitCode::from(run(
-        alloc,
-        words.as_slice(),
-        &mut input,
-        &mut out,
-        &mut hub,
-    ))
+    ExitCode::from(run(alloc, words.as_slice(), &mut input, &mut out, &mut hub))
 }
