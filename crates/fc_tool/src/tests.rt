@@ -168,6 +168,23 @@ fn the_first_refusal_is_written_with_its_place(rt: HostRuntime) -> Result<(), Fa
 }
 
 #[test]
+fn the_first_frame_may_be_refused(rt: HostRuntime) -> Result<(), Fail> {
+    let alloc = rt.alloc();
+    for (at, byte, line) in [
+        (0usize, 0x20, "refused 0 version\n"),
+        (3, 5, "refused 2 short-length\n"),
+    ] {
+        let mut bytes = beats(alloc, 1)?;
+        assert!(rt; at < bytes.len());
+        bytes[at] = byte;
+        let (status, text) = shown(alloc, bytes, 4096)?;
+        assert_eq!(rt; status, 6, "{line}");
+        assert_eq!(rt; text.as_slice(), line.as_bytes(), "{line}");
+    }
+    Ok(())
+}
+
+#[test]
 fn each_call_of_the_sink_fails_in_turn(rt: HostRuntime) -> Result<(), Fail> {
     let alloc = rt.alloc();
     let words = words(alloc, "show")?;
