@@ -1,4 +1,4 @@
--- ILVs: RFC 5810, section 6.2. Four bytes of identifier, four of a length that counts these eight bytes and the value,
+-- ILVs: RFC 5810, section 6.3. Four bytes of identifier, four of a length that counts these eight bytes and the value,
 -- the value, and free padding up to a multiple of four.
 use Rattle.std.specs.Prelude.{◌≡◌, ◌<◌, ◌^◌, ℕ, ◌+◌, ◌%◌, List, ◌++◌, length, take, drop, nat_lt, if◌then◌else◌, Option, Some, None, Result, Ok, Err}
 use Rattle.fc_wire.specs.Bytes.{u32_at, u32_bytes}

@@ -1,5 +1,5 @@
--- How bytes are items, one after the other, up to their end or to the first fault: RFC 5810, section 6.2, on the TLVs
--- and ILVs of a container.
+-- How bytes are items, one after the other, up to their end or to the first fault: RFC 5810, sections 6.2 and 6.3, on
+-- the TLVs and ILVs of a container.
 use Rattle.std.specs.Prelude.{◌≡◌, ◌<◌, ℕ, zero, suc, ◌+◌, ◌-◌, List, [], ◌∷◌, ◌++◌, length, Option, Some, None, option_map, Result, Ok, Err}
 use Rattle.fc_wire.specs.declared.header.WireFault.{WireFault}
 

@@ -1,5 +1,5 @@
--- The spelling of TLVs and ILVs that is written, whose padding is zero: RFC 5810, section 6.2. The length of a TLV that
--- holds others counts them with their padding.
+-- The spelling of TLVs and ILVs that is written, whose padding is zero: RFC 5810, sections 6.2 and 6.3. The length of a
+-- TLV that holds others counts them with their padding.
 use Rattle.std.specs.Prelude.{◌<◌, ℕ, ◌+◌, ◌-◌, ◌/◌, ◌%◌, ◌^◌, List, [], ◌∷◌, ◌++◌, length, replicate, slice_index_or, slice_set}
 use Rattle.fc_wire.specs.Bytes.{u16_bytes, u32_bytes}
 use Rattle.fc_wire.specs.Ilvs.{IlvItem}

@@ -26,7 +26,7 @@ impl Duplicate for Ilv {
     }
 }
 
-/// An ILV of the bytes that a view was given (RFC 5810, section 6.2).
+/// An ILV of the bytes that a view was given (RFC 5810, section 6.3).
 #[derive(Debug, Drop)]
 pub struct IlvRef<'a> {
     /// The identifier.

@@ -1,4 +1,4 @@
-//! The format of the wire below messages (RFC 5810, sections 6.1 and 6.2): the common header, views that lend the TLVs and
+//! The format of the wire below messages (RFC 5810, sections 6.1 to 6.3): the common header, views that lend the TLVs and
 //! ILVs of bytes, and a writer of TLVs.
 #![tactic(auto)]
 

@@ -44,11 +44,13 @@ fn a_header_is_read_and_put(rt: HostRuntime) -> Result<(), Fail> {
 #[test]
 fn tlvs_stand_at_their_places(rt: HostRuntime) -> Result<(), Fail> {
     let cut: [u8; 12] = [0, 2, 0, 5, 1, 9, 9, 9, 0, 3, 0, 4];
-    let cases: [(&[u8], usize, [(u16, usize, usize, usize); 2]); 7] = [
+    let cases: [(&[u8], usize, [(u16, usize, usize, usize); 2]); 9] = [
         (&QUERY, 24, [(0x1000, 24, 24, 24), (0, 0, 0, 0)]),
         (&QUERY[12..], 36, [(7, 36, 12, 12), (0, 0, 0, 0)]),
         (&QUERY[16..], 40, [(0x110, 40, 8, 8), (0, 0, 0, 0)]),
+        (&ANSWER, 24, [(0x1000, 24, 32, 32), (0, 0, 0, 0)]),
         (&ANSWER[12..], 36, [(9, 36, 20, 20), (0, 0, 0, 0)]),
+        (&ANSWER[16..], 40, [(0x110, 40, 16, 16), (0, 0, 0, 0)]),
         (&ANSWER[28..], 52, [(0x112, 52, 1, 4), (0, 0, 0, 0)]),
         (&cut, 0, [(2, 0, 1, 4), (3, 8, 0, 0)]),
         (&[], 8, [(0, 0, 0, 0), (0, 0, 0, 0)]),
