@@ -2,8 +2,8 @@
 ghost use Rattle.std.specs.Prelude.{◌≡◌};
 ghost use Rattle.fc_element.specs.ElementState.{opening_settings};
 
-/// The settings of heartbeats, which are components of the FE Protocol LFB (RFC 5810, section 5.1; the policies are this
-/// profile's).
+/// The settings of heartbeats, which are components of the FE Protocol LFB (RFC 5810, sections 4.3.3 and 7.3.1; the
+/// policies are this profile's).
 #[derive(Clone, Copy, Debug, PartialEq, Eq)]
 pub struct HeartbeatSettings {
     /// CEHBPolicy: 0 the element ends associations that are silent for too long, 1 it does not.
