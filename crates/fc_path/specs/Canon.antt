@@ -1,5 +1,5 @@
 -- The spelling of selects that is written: free bits and padding are zero, and the length of a container counts all that
--- stands in it with its padding. RFC 5810, section 6.2 and 7.1.5 to 7.1.7.
+-- stands in it with its padding. RFC 5810, sections 6.2, 6.3 and 7.1.
 use Rattle.std.specs.Prelude.{◌≡◌, ℕ, ◌+◌, ◌^◌, ◌&&◌, Bool, true, false, nat_lt, List, [], ◌∷◌, ◌++◌, length, map, Option, Some, None, Result, Ok, Err}
 use Rattle.std.specs.List.{flat_map}
 use Rattle.fc_base.specs.declared.faults.WriteFault.{WriteFault}

@@ -1,5 +1,5 @@
--- The grammar of paths, operations and selects, apart from how they are read: RFC 5810, section 7.1.5 to 7.1.7. Padding,
--- all flags but that of the key, and the three bytes after a code are free.
+-- The grammar of paths, operations and selects, apart from how they are read: RFC 5810, sections 7.1 and 7.1.5 to
+-- 7.1.8. Padding, all flags but that of the key, and the three bytes after a code are free.
 use Rattle.std.specs.Prelude.{◌≡◌, ◌<◌, ℕ, zero, suc, ◌/◌, ◌^◌, true, List, [], ◌∷◌, ◌++◌, length, Option, Some, None}
 use Rattle.std.specs.List.{flat_map}
 use Rattle.fc_wire.specs.Bytes.{u16_bytes, u32_bytes}

@@ -1,4 +1,4 @@
--- The types of TLVs and of operations, and where each may stand: RFC 5810, section 7.1.5 and appendix B. That
+-- The types of TLVs and of operations, and where each may stand: RFC 5810, section 7.1.6 and appendix A. That
 -- SPARSEDATA is the one body of a SET-PROP is this profile's own.
 use Rattle.std.specs.Prelude.{ℕ, ◌==◌, ◌&&◌, ◌||◌, not, nat_lt, Bool, true, false, List, [], ◌∷◌, Option, Some, None, if◌then◌else◌}
 use Rattle.fc_path.specs.declared.oper.OperKind.{OperKind}

@@ -1,5 +1,5 @@
 -- The leaves of a select: each PATH-DATA that holds no others, in reading order, with the steps of all PATH-DATA that it
--- stands in, from outside to inside: RFC 5810, section 7.1.5 and 7.1.7.
+-- stands in, from outside to inside: RFC 5810, section 7.1.
 use Rattle.std.specs.Prelude.{ℕ, List, [], ◌∷◌, ◌++◌, map, Option, Some, None}
 use Rattle.std.specs.List.{flat_map}
 use Rattle.fc_path.specs.declared.oper.Leaf.{Leaf}

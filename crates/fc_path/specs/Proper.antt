@@ -1,4 +1,4 @@
--- Selects that the grammar has a spelling for, lengths aside: RFC 5810, section 7.1.5 to 7.1.7. Each operation may stand
+-- Selects that the grammar has a spelling for, lengths aside: RFC 5810, sections 7.1.5 and 7.1.6. Each operation may stand
 -- in the message, each body is one of its operation, no list that needs an item is empty, and PATH-DATA nest at most 16
 -- deep.
 use Rattle.std.specs.Prelude.{◌≡◌, ◌<◌, ℕ, zero, suc, true, length, Some}

@@ -1,5 +1,5 @@
 -- What reading gives: the select that a TLV is, or the first rule in reading order that it breaks, with its place. RFC
--- 5810, section 7.1.5 to 7.1.7, on the bytes; the faults and their order are this profile's own.
+-- 5810, sections 7.1 and 7.1.5 to 7.1.8, on the bytes; the faults and their order are this profile's own.
 use Rattle.std.specs.Prelude.{ℕ, zero, suc, ◌+◌, ◌*◌, ◌/◌, ◌^◌, ◌==◌, ◌&&◌, ◌||◌, not, Bool, nat_lt, List, [], ◌∷◌, length, drop, map, slice_index, Option, Some, None, Result, Ok, Err, if◌then◌else◌}
 use Rattle.fc_wire.specs.Bytes.{u16_at, u32_at}
 use Rattle.fc_wire.specs.Tlvs.{TlvItem, tlvs}

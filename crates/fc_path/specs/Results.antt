@@ -1,5 +1,6 @@
 -- The response of results alone to selects: the same selects and path trees with a RESULT in each leaf. COMMIT becomes
--- COMMIT-RESPONSE, TRCOMP is left out, and so is a select that is left empty. RFC 5810, section 7.1.5, in this profile.
+-- COMMIT-RESPONSE, TRCOMP is left out, and so is a select that is left empty. RFC 5810, sections 7.1.6 and 7.1.7, in
+-- this profile.
 use Rattle.std.specs.Prelude.{◌≡◌, ◌<◌, ℕ, ◌&&◌, Bool, true, false, nat_lt, List, [], ◌∷◌, length, map, Option, Some, None}
 use Rattle.std.specs.List.{flat_map}
 use Rattle.fc_path.specs.Canon.{Written, joined, select_written}

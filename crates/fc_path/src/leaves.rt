@@ -133,7 +133,7 @@ impl Select {
     /// The leaves of the select in reading order, each with its place and its body. COMMIT, TRCOMP and COMMIT-RESPONSE
     /// have none.
     pub fn leaves(&self) -> Result<List<Leaf>, Memory>
-        ensures { IfOk result (λ leaves. leaves ≡ select_leaves self.now) }
+        ensures exact { IfOk result (λ leaves. leaves ≡ select_leaves self.now) }
     {
         let mut leaves = List::new(self.opers.alloc());
         for oper in self.opers.as_slice() {

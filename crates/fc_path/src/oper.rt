@@ -4,7 +4,7 @@ ghost use Rattle.std.specs.Prelude.{◌≡◌, IfOk};
 use crate::{Body, PathData};
 use fc_base::{Code, Duplicate, List, Memory, Octets};
 
-/// The operations that hold PATH-DATA (RFC 5810, section 7.1.5).
+/// The operations that hold PATH-DATA (RFC 5810, section 7.1.6).
 #[derive(Clone, Copy, Debug, PartialEq, Eq)]
 pub enum OperKind {
     Set,

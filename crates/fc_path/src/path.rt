@@ -13,7 +13,7 @@ pub struct Key {
     pub value: Octets,
 }
 
-/// A PATH-DATA (RFC 5810, section 7.1.7): steps from where it stands, and what is said of the place that they lead to.
+/// A PATH-DATA (RFC 5810, section 7.1): steps from where it stands, and what is said of the place that they lead to.
 #[cycle(path)]
 #[derive(Debug, PartialEq, Eq, Drop)]
 pub struct PathData {

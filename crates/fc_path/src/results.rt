@@ -134,7 +134,7 @@ fn select_size(select: &Select) -> Option<usize>
 
 /// Whether the response of results alone to the selects of a Config or a Query passes no length field.
 pub fn fits_results(selects: &[Select]) -> bool
-    ensures { result ≡ results_fit selects.now }
+    ensures exact { result ≡ results_fit selects.now }
 {
     let mut sum = 0usize;
     for select in selects {

@@ -1,6 +1,6 @@
 // Selects and faults whose bytes and places stand in the specification of the format.
 use crate::{Body, Oper, OperKind, PathData, PathFault, Select, Step, fits_results};
-use fc_base::{Duplicate, List, Memory, Octets};
+use fc_base::{Duplicate, List, Memory, Octets, WriteFault};
 use fc_wire::{TlvWriter, Tlvs, WireFault};
 use std::alloc::{AllocError, Global};
 use std::test::Fail;
@@ -118,7 +118,7 @@ fn selects_are_read_and_written(rt: HostRuntime) -> Result<(), Fail> {
 #[test]
 fn free_bits_and_padding_are_read(rt: HostRuntime) -> Result<(), Fail> {
     let alloc = rt.alloc();
-    let cases: [(u8, &str, &str); 3] = [
+    let cases: [(u8, &str, &str); 5] = [
         (
             0x14,
             "10000024 00000001 00000001 00090018 01100014 00000001 00000007 01120005 02000000",
@@ -128,6 +128,16 @@ fn free_bits_and_padding_are_read(rt: HostRuntime) -> Result<(), Fail> {
             4,
             "10000018 00000001 00000001 0007000C 01100008 00000000",
             "10000018 00000001 00000001 0007000C 01100006 7FFF0000",
+        ),
+        (
+            4,
+            "10000018 00000001 00000001 0007000C 01100008 00000000",
+            "10000018 00000001 00000001 0007000C 01100005 7FFF0000",
+        ),
+        (
+            4,
+            "10000018 00000001 00000001 0007000C 01100008 00000000",
+            "10000018 00000001 00000001 0007000C 01100007 7FFF0000",
         ),
         (
             0x13,
@@ -147,7 +157,27 @@ fn free_bits_and_padding_are_read(rt: HostRuntime) -> Result<(), Fail> {
 #[test]
 fn faults_have_their_places(rt: HostRuntime) -> Result<(), Fail> {
     let alloc = rt.alloc();
-    let cases: [(u8, &str, PathFault); 20] = [
+    let cases: [(u8, &str, PathFault); 35] = [
+        (
+            4,
+            "10000003",
+            PathFault::Wire(WireFault::TlvShort { place: 24 }),
+        ),
+        (
+            4,
+            "10000005",
+            PathFault::Wire(WireFault::TlvPast { place: 24 }),
+        ),
+        (
+            4,
+            "10000009 00000001 00000000",
+            PathFault::Wire(WireFault::TlvShort { place: 24 }),
+        ),
+        (
+            4,
+            "1000000A 00000001 00000000",
+            PathFault::Wire(WireFault::TlvShort { place: 24 }),
+        ),
         (
             4,
             "1000000B 00000001 00000000",
@@ -180,6 +210,36 @@ fn faults_have_their_places(rt: HostRuntime) -> Result<(), Fail> {
         ),
         (
             4,
+            "10000010 00000001 00000001 00070005",
+            PathFault::Wire(WireFault::TlvPast { place: 36 }),
+        ),
+        (
+            4,
+            "10000018 00000001 00000001 1000000C 00000001 00000001",
+            PathFault::WrongBody { place: 36 },
+        ),
+        (
+            4,
+            "10000014 00000001 00000001 00070008 01100004",
+            PathFault::CountPast { place: 40 },
+        ),
+        (
+            4,
+            "10000018 00000001 00000001 0007000C 01100005 00000001",
+            PathFault::CountPast { place: 40 },
+        ),
+        (
+            4,
+            "10000018 00000001 00000001 0007000C 01100006 00000001",
+            PathFault::CountPast { place: 40 },
+        ),
+        (
+            4,
+            "10000018 00000001 00000001 0007000C 01100007 00000001",
+            PathFault::CountPast { place: 40 },
+        ),
+        (
+            4,
             "10000018 00000001 00000001 0007000C 01100008 00000001",
             PathFault::CountPast { place: 40 },
         ),
@@ -195,7 +255,17 @@ fn faults_have_their_places(rt: HostRuntime) -> Result<(), Fail> {
         ),
         (
             4,
+            "10000024 00000001 00000001 00070018 01100014 80000001 00000007 01110005 00000000",
+            PathFault::Wire(WireFault::TlvShort { place: 52 }),
+        ),
+        (
+            4,
             "10000024 00000001 00000001 00070018 01100014 80000001 00000007 01110006 00000000",
+            PathFault::Wire(WireFault::TlvShort { place: 52 }),
+        ),
+        (
+            4,
+            "10000024 00000001 00000001 00070018 01100014 80000001 00000007 01110007 00000000",
             PathFault::Wire(WireFault::TlvShort { place: 52 }),
         ),
         (
@@ -232,6 +302,21 @@ fn faults_have_their_places(rt: HostRuntime) -> Result<(), Fail> {
             3,
             "10000024 00000001 00000001 00010018 01100014 00000001 00000007 01130008 00000001",
             PathFault::Wire(WireFault::TlvShort { place: 56 }),
+        ),
+        (
+            3,
+            "10000024 00000001 00000001 00010018 01100014 00000001 00000007 01120009 00000000",
+            PathFault::Wire(WireFault::TlvPast { place: 52 }),
+        ),
+        (
+            3,
+            "10000028 00000001 00000001 0001001C 01100018 00000001 00000007 0113000C 00000001 00000007",
+            PathFault::Wire(WireFault::TlvShort { place: 56 }),
+        ),
+        (
+            3,
+            "10000028 00000001 00000001 0001001C 01100018 00000001 00000007 0113000C 00000001 00000009",
+            PathFault::Wire(WireFault::TlvPast { place: 56 }),
         ),
         (
             4,
@@ -278,6 +363,31 @@ fn path_data_nest_sixteen_deep(rt: HostRuntime) -> Result<(), Fail> {
     let alloc = rt.alloc();
     assert!(rt; read(alloc, 4, &nested(alloc, 16)?).is_ok());
     assert!(rt; read(alloc, 4, &nested(alloc, 17)?) == Err(PathFault::Deep { place: 168 }));
+    Ok(())
+}
+
+// The faults of the first two selects, the first of which stands at 24 in a message of a type.
+fn two_faults(alloc: Global, message: u8, bytes: &[u8]) -> [Option<PathFault>; 2] {
+    let mut found = [Some(PathFault::Memory); 2];
+    if bytes.len() % 4 != 0 || bytes.len() > 1000 {
+        return found;
+    }
+    let mut tlvs = Tlvs::over(bytes, 24);
+    for item in &mut found {
+        if let Some(Ok(tlv)) = tlvs.next() {
+            *item = Select::read(alloc, &tlv, message).err();
+        }
+    }
+    found
+}
+
+#[test]
+fn each_of_two_selects_has_its_own_places(rt: HostRuntime) -> Result<(), Fail> {
+    let alloc = rt.alloc();
+    let digits =
+        "10000018 00000001 00000001 0007000C 01100008 00000000 10000010 00000001 00000002 00070004";
+    let found = two_faults(alloc, 4, &bytes_of(alloc, digits)?);
+    assert!(rt; found == [None, Some(PathFault::WrongBody { place: 64 })]);
     Ok(())
 }
 
@@ -364,6 +474,25 @@ fn results_fit_up_to_the_last_byte(rt: HostRuntime) -> Result<(), Fail> {
             selects.push(wide(alloc, steps, size)?)?;
         }
         assert_eq!(rt; fits_results(selects.as_slice()), want, "{steps} {count}");
+    }
+    Ok(())
+}
+
+#[test]
+fn lengths_pass_no_field(rt: HostRuntime) -> Result<(), Fail> {
+    let alloc = rt.alloc();
+    for (size, fits) in [(65496, true), (65497, false), (65531, false)] {
+        let mut writer = TlvWriter::new(alloc);
+        writer.put(&[1, 2, 3, 4])?;
+        let answer = wide(alloc, 1, size)?.write(&mut writer);
+        let bytes = writer.finish();
+        if fits {
+            assert!(rt; answer.is_ok());
+            assert_eq!(rt; bytes.len(), 65536);
+        } else {
+            assert!(rt; answer == Err(WriteFault::TooLong));
+            assert_eq!(rt; bytes.as_slice(), [1, 2, 3, 4].as_slice());
+        }
     }
     Ok(())
 }
