@@ -6,3 +6,4 @@ pub mod Proper
 pub mod Reading
 pub mod Results
 pub mod Stray
+pub mod Visits

@@ -1,5 +1,6 @@
 // Laws of selects and their spellings.
-ghost use Rattle.std.specs.Prelude.{◌≡◌, ◌+◌, ◌++◌, ◌%◌, ◌<◌, ◌≤◌, ◌⊎◌, List, ℕ, length, Ok, Err, true};
+ghost use Rattle.std.specs.Prelude.{◌≡◌, ◌+◌, ◌++◌, ◌%◌, ◌<◌, ◌≤◌, ◌⊎◌, ◌↔◌, List, ℕ, length, Ok, Err, true};
+ghost use Rattle.std.specs.List.{AllByRecursion};
 ghost use Rattle.fc_wire.specs.Bytes.{AreBytes};
 ghost use Rattle.fc_wire.specs.Tiling.{in_front};
 ghost use Rattle.fc_wire.specs.Tlvs.{TlvItem, Lent, tlvs};
@@ -7,6 +8,7 @@ ghost use Rattle.fc_path.specs.Canon.{select_written};
 ghost use Rattle.fc_path.specs.Grammar.{IsSelect, IsSelectOf};
 ghost use Rattle.fc_path.specs.Proper.{ProperSelect};
 ghost use Rattle.fc_path.specs.Reading.{select_at};
+ghost use Rattle.fc_path.specs.Visits.{IsGood, FirstBad, select_visits};
 ghost use Rattle.fc_path.specs.declared.fault.PathFault.{PathFault};
 ghost use Rattle.fc_path.specs.declared.fault.PathFault.TheVariants.{Memory};
 ghost use Rattle.fc_path.specs.declared.oper.Select.{Select};
@@ -33,4 +35,11 @@ pub fn written_selects_are_read()
     ensures spelled { (message : ℕ) (s : Select) → ProperSelect message s → (select_written s).fits ≡ true → IsSelect message s (select_written s).text }
     ensures again { (message place : ℕ) (s : Select) (bytes more : List ℕ) → IsSelect message s bytes →
         (tlv : TlvItem) × (tlvs place (bytes ++ more) ≡ in_front tlv (tlvs (place + length bytes) more)) × (tlv.place ≡ place) × (select_at message tlv ≡ Ok s) }
+{}
+
+/// The fault that reading gives is that of the first test that fails in the list of all tests in reading order, and a TLV
+/// is read exactly where none fails.
+pub fn faults_are_in_reading_order()
+    ensures first { (message : ℕ) (tlv : TlvItem) (fault : PathFault) → (select_at message tlv ≡ Err fault) ↔ FirstBad fault (select_visits message tlv) }
+    ensures read { (message : ℕ) (tlv : TlvItem) → ((s : Select) × (select_at message tlv ≡ Ok s)) ↔ AllByRecursion IsGood (select_visits message tlv) }
 {}

@@ -16,7 +16,10 @@ mod tests;
 mod write;
 
 pub use fault::PathFault;
-pub use laws::{reading_is_the_grammar, selects_are_unique, written_selects_are_read};
+pub use laws::{
+    faults_are_in_reading_order, reading_is_the_grammar, selects_are_unique,
+    written_selects_are_read,
+};
 pub use oper::{Leaf, Oper, OperKind, Select, Spot, Step};
 pub use path::{Body, Key, PathData};
 pub use results::fits_results;
