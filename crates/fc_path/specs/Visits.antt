@@ -1,7 +1,7 @@
 -- The order of faults as one list: the tests of an LFBselect in reading order, each with its place, whatever loops read
 -- it. A TLV is tested where it stands, then what it holds, then what stands behind it, and last the end of what holds
 -- them all. The faults and their order are this profile's own.
-use Rattle.std.specs.Prelude.{◌≡◌, ℕ, zero, suc, ◌+◌, ◌*◌, ◌/◌, ◌^◌, ◌==◌, ◌&&◌, ◌||◌, not, Bool, true, false, nat_lt, List, [], ◌∷◌, ◌++◌, length, drop, Option, Some, None, if◌then◌else◌}
+use Rattle.std.specs.Prelude.{◌≡◌, ◌≤◌, ℕ, zero, suc, ◌+◌, ◌*◌, ◌/◌, ◌^◌, ◌==◌, ◌&&◌, ◌||◌, not, Bool, true, false, nat_lt, List, [], ◌∷◌, ◌++◌, length, drop, Option, Some, None, if◌then◌else◌}
 use Rattle.std.specs.List.{AllByRecursion}
 use Rattle.fc_wire.specs.Bytes.{u16_at}
 use Rattle.fc_wire.specs.Tiling.{Tiling}
@@ -34,6 +34,11 @@ abbrev pub FirstBad : PathFault → List Visit → Type 0
 FirstBad fault visits =
     (before : List Visit) × (place : ℕ) × (rest : List Visit) × (visits ≡ before ++ visit place (Some fault) ∷ rest)
     × AllByRecursion IsGood before
+
+-- the places never fall from one on
+abbrev pub AreRising : ℕ → List Visit → Type 0
+AreRising place [] = Unit {0}
+AreRising place (v ∷ vs) = (place ≤ v.place) × AreRising v.place vs
 
 abbrev pub unless : Bool → PathFault → Option PathFault
 unless holds fault = if holds then None else Some fault

@@ -8,7 +8,7 @@ ghost use Rattle.fc_path.specs.Canon.{select_written};
 ghost use Rattle.fc_path.specs.Grammar.{IsSelect, IsSelectOf};
 ghost use Rattle.fc_path.specs.Proper.{ProperSelect};
 ghost use Rattle.fc_path.specs.Reading.{select_at};
-ghost use Rattle.fc_path.specs.Visits.{IsGood, FirstBad, select_visits};
+ghost use Rattle.fc_path.specs.Visits.{IsGood, FirstBad, AreRising, select_visits};
 ghost use Rattle.fc_path.specs.declared.fault.PathFault.{PathFault};
 ghost use Rattle.fc_path.specs.declared.fault.PathFault.TheVariants.{Memory};
 ghost use Rattle.fc_path.specs.declared.oper.Select.{Select};
@@ -37,9 +37,10 @@ pub fn written_selects_are_read()
         (tlv : TlvItem) × (tlvs place (bytes ++ more) ≡ in_front tlv (tlvs (place + length bytes) more)) × (tlv.place ≡ place) × (select_at message tlv ≡ Ok s) }
 {}
 
-/// The fault that reading gives is that of the first test that fails in the list of all tests in reading order, and a TLV
-/// is read exactly where none fails.
+/// The fault that reading gives is that of the first test that fails in the list of all tests in reading order, whose
+/// places never fall, and a TLV is read exactly where none fails.
 pub fn faults_are_in_reading_order()
     ensures first { (message : ℕ) (tlv : TlvItem) (fault : PathFault) → (select_at message tlv ≡ Err fault) ↔ FirstBad fault (select_visits message tlv) }
+    ensures rising { (message : ℕ) (tlv : TlvItem) → Lent tlv → AreBytes tlv.padded → AreRising tlv.place (select_visits message tlv) }
     ensures read { (message : ℕ) (tlv : TlvItem) → ((s : Select) × (select_at message tlv ≡ Ok s)) ↔ AllByRecursion IsGood (select_visits message tlv) }
 {}
