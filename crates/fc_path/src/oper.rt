@@ -67,8 +67,11 @@ pub struct Spot {
 /// One operation on one place: a PATH-DATA that holds no others, with the steps of all that it stands in.
 #[derive(Debug, PartialEq, Eq, Drop)]
 pub struct Leaf {
+    /// The operation.
     pub kind: OperKind,
+    /// The place.
     pub spot: Spot,
+    /// What is said of the place.
     pub body: Body,
 }
 

@@ -106,6 +106,7 @@ fn selects_are_read_and_written(rt: HostRuntime) -> Result<(), Fail> {
         match read(alloc, message, &bytes) {
             Ok(select) => {
                 let mut writer = TlvWriter::new(alloc);
+                assert!(rt; select.copy()? == select, "{digits}");
                 assert!(rt; select.write(&mut writer).is_ok());
                 assert_eq!(rt; writer.finish().as_slice(), bytes.as_slice(), "{digits}");
             }
@@ -157,7 +158,7 @@ fn free_bits_and_padding_are_read(rt: HostRuntime) -> Result<(), Fail> {
 #[test]
 fn faults_have_their_places(rt: HostRuntime) -> Result<(), Fail> {
     let alloc = rt.alloc();
-    let cases: [(u8, &str, PathFault); 35] = [
+    let cases: [(u8, &str, PathFault); 38] = [
         (
             4,
             "10000003",
@@ -252,6 +253,21 @@ fn faults_have_their_places(rt: HostRuntime) -> Result<(), Fail> {
             4,
             "10000020 00000001 00000001 00070014 01100010 00000001 00000007 01110004",
             PathFault::KeyFlag { place: 44 },
+        ),
+        (
+            4,
+            "10000020 00000001 00000001 00070014 01100010 80000001 00000007 00020004",
+            PathFault::UnknownTlv { place: 52 },
+        ),
+        (
+            4,
+            "10000020 00000001 00000001 00070014 01100010 80000001 00000007 01120003",
+            PathFault::Wire(WireFault::TlvShort { place: 52 }),
+        ),
+        (
+            4,
+            "10000020 00000001 00000001 00070014 01100010 80000001 00000007 01120005",
+            PathFault::Wire(WireFault::TlvPast { place: 52 }),
         ),
         (
             4,
@@ -425,7 +441,7 @@ fn leaves_have_the_steps_of_all_that_they_stand_in(rt: HostRuntime) -> Result<()
             assert_eq!(rt; leaves.len(), 1);
             for leaf in leaves.as_slice() {
                 let leaf = leaf.copy()?;
-                assert!(rt; leaf.kind == OperKind::Del && leaf.spot.steps == steps);
+                assert!(rt; leaf.kind.copy()? == OperKind::Del && leaf.spot.steps == steps);
             }
         }
         Err(_) => assert!(rt; false),
