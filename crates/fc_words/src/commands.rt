@@ -13,7 +13,7 @@ pub enum Command {
     Element {
         /// The element's own ID.
         fe: FeId,
-        /// The ID of the control element that it is to connect to.
+        /// The ID of the control element that is to be its master.
         ce: CeId,
         /// Where the element is reached, which is not empty.
         address: Text,
