@@ -1,11 +1,14 @@
 -- Acts one after the other.
-use Rattle.std.proofs.Common.{◌≡◌, ◌<◌, ◌+◌, get_or, ℕ, List, [], ◌∷◌, ◌++◌, length, take, drop, refl, sym, ap, ◌∙◌, append_assoc, append-nil, Option, Some, None}
+use Rattle.std.proofs.Common.{◌≡◌, ◌<◌, ◌+◌, get_or, ℕ, List, [], ◌∷◌, ◌++◌, length, take, drop, refl, sym, ap, ◌∙◌, append_assoc, append-nil, Option, Some, None, Result, Ok, Err}
+use Rattle.std.specs.Prelude.{IfErr, OnErr}
 use Rattle.std.specs.Option.{option_map}
 use Rattle.std.proofs.lemmas.List.{map-append, take-append-drop, take_more}
 use Rattle.fc_hub.specs.Hubs.{Held, holds}
 use Rattle.fc_hub.specs.declared.event.Act.{Act}
 use Rattle.fc_element.specs.declared.input.Out.{Out}
-use Rattle.fc_tool.specs.Acting.{Acts, ActsFront, acted}
+use Rattle.fc_tool.specs.declared.acting.NodeStop.{NodeStop}
+use Rattle.fc_tool.specs.declared.acting.NodeStop.TheVariants.{HubFault, NoMemory}
+use Rattle.fc_tool.specs.Acting.{Acts, ActsUntil, AreLeft, acted}
 use Rattle.fc_tool.specs.ElementNode.{numbered, sent}
 
 acted_none : (h : Held) → acted [] h ≡ h
@@ -29,26 +32,37 @@ pub acts_on : (a b c : Option Held) (xs ys : List Act) → Acts a b xs → Acts 
 acts_on a b c xs ys first second = second ∙ ap (λ o. option_map (acted ys) o) first ∙ twice a xs ys
 
 -- the first acts were done, and then a front of the others
-pub front_on : (a b c : Option Held) (xs ys : List Act) → Acts a b xs → ActsFront b c ys → ActsFront a c (xs ++ ys)
-front_on a b c xs ys first (front, back, split, second) =
-    (xs ++ front, back, ap (λ l. xs ++ l) split ∙ sym (append_assoc xs front back), acts_on a b c xs front first second)
+pub until_on : (stop : NodeStop) (a b c : Option Held) (xs ys : List Act) → Acts a b xs → ActsUntil stop b c ys → ActsUntil stop a c (xs ++ ys)
+until_on stop a b c xs ys first (front, left, split, some, second) =
+    (xs ++ front, left, ap (λ l. xs ++ l) split ∙ sym (append_assoc xs front left), some, acts_on a b c xs front first second)
 
--- the first acts were done, and then nothing
-pub front_here : (a b c : Option Held) (xs ys : List Act) → Acts a b xs → c ≡ b → ActsFront a c (xs ++ ys)
-front_here a b c xs ys first same = (xs, ys, refl, same ∙ first)
+-- an act is left
+is_left : (stop : NodeStop) (act : Act) (acts : List Act) → AreLeft stop (act ∷ acts)
+is_left HubFault act acts = λ none. cc none
+is_left NoMemory act acts = tt
 
--- nothing was done of the acts
-pub front_none : (a b : Option Held) (xs : List Act) → b ≡ a → ActsFront a b xs
-front_none a b xs same = ([], xs, refl, same ∙ acts_none a)
+-- the first acts were done, and the next was not
+pub until_here : (stop : NodeStop) (a b c : Option Held) (xs : List Act) (act : Act) (ys : List Act) → Acts a b xs → c ≡ b → ActsUntil stop a c (xs ++ act ∷ ys)
+until_here stop a b c xs act ys first same = (xs, act ∷ ys, refl, is_left stop act ys, same ∙ first)
 
--- so many messages were sent, and then no more
-pub sent_front : (a b c : Option Held) (outs : List Out) (n : ℕ) → Acts a b (sent (take n outs)) → c ≡ b → ActsFront a c (sent outs)
-sent_front a b c outs n first same = (
-  sent (take n outs),
-  sent (drop n outs),
-  ap sent (sym (take-append-drop n outs)) ∙ map-append _ (take n outs) (drop n outs),
-  same ∙ first,
-)
+-- nothing was done, and there was no memory
+pub until_none : (a b : Option Held) (xs : List Act) → b ≡ a → ActsUntil NoMemory a b xs
+until_none a b xs same = ([], xs, refl, tt, same ∙ acts_none a)
+
+-- one act was to be done, and was not
+pub until_one : (result : Result (Unit {0}) NodeStop) (a b : Option Held) (act : Act) → OnErr result (b ≡ a) → IfErr result (λ stop. ActsUntil stop a b (act ∷ []))
+until_one (Ok x) a b act kept = tt
+until_one (Err stop) a b act kept = until_here stop a a b [] act [] (acts_none a) kept
+
+-- so many messages were sent, and the next was not
+pub sent_until : (stop : NodeStop) (a b c : Option Held) (outs : List Out) (n : ℕ) (o : Out) → n < length outs → o ≡ get_or outs n o → Acts a b (sent (take n outs))
+    → c ≡ b → ActsUntil stop a c (sent outs)
+sent_until stop a b c outs n o lt at first same =
+    let more : take (n + 1) outs ≡ take n outs ++ o ∷ [] = take_more outs n o lt ∙ ap (λ x. take n outs ++ x ∷ []) (sym at) in
+    let all : outs ≡ take n outs ++ o ∷ drop (n + 1) outs =
+    sym (take-append-drop (n + 1) outs) ∙ ap (λ l. l ++ drop (n + 1) outs) more ∙ append_assoc (take n outs) (o ∷ []) (drop (n + 1) outs) in
+    let (front, left, split, some, done) = until_here stop a b c (sent (take n outs)) _ (sent (drop (n + 1) outs)) first same in
+    (front, left, ap sent all ∙ map-append _ (take n outs) (o ∷ drop (n + 1) outs) ∙ split, some, done)
 
 -- one message more was sent
 pub sent_more : (a b c : Option Held) (outs : List Out) (n : ℕ) (o : Out) → n < length outs → o ≡ get_or outs n o → Acts a b (sent (take n outs))
@@ -57,12 +71,18 @@ sent_more a b c outs n o lt at first second =
     let more : take (n + 1) outs ≡ take n outs ++ o ∷ [] = take_more outs n o lt ∙ ap (λ x. take n outs ++ x ∷ []) (sym at) in
     acts_on a b c _ _ first second ∙ ap (λ l. option_map (acted l) a) (sym (ap sent more ∙ map-append _ (take n outs) (o ∷ [])))
 
+all_left : (stop : NodeStop) (xs ys : List Act) → AreLeft stop xs → AreLeft stop (xs ++ ys)
+all_left HubFault [] ys some = absurd (some refl)
+all_left HubFault (x ∷ xs) ys some = is_left HubFault x (xs ++ ys)
+all_left NoMemory xs ys some = tt
+
 -- a front of the acts is one of these and more
-pub front_longer : (a b : Option Held) (xs ys : List Act) → ActsFront a b xs → ActsFront a b (xs ++ ys)
-front_longer a b xs ys (front, back, split, done) = (front, back ++ ys, ap (λ l. l ++ ys) split ∙ append_assoc front back ys, done)
+pub until_longer : (stop : NodeStop) (a b : Option Held) (xs ys : List Act) → ActsUntil stop a b xs → ActsUntil stop a b (xs ++ ys)
+until_longer stop a b xs ys (front, left, split, some, done) =
+    (front, left ++ ys, ap (λ l. l ++ ys) split ∙ append_assoc front left ys, all_left stop left ys some, done)
 
 pub acts_same : (a b : Option Held) (xs ys : List Act) → Acts a b xs → ys ≡ xs → Acts a b ys
 acts_same a b xs ys done is = done ∙ ap (λ l. option_map (acted l) a) (sym is)
 
-pub front_same : (a b : Option Held) (xs ys : List Act) → ActsFront a b xs → ys ≡ xs → ActsFront a b ys
-front_same a b xs ys (front, back, split, done) is = (front, back, is ∙ split, done)
+pub until_same : (stop : NodeStop) (a b : Option Held) (xs ys : List Act) → ActsUntil stop a b xs → ys ≡ xs → ActsUntil stop a b ys
+until_same stop a b xs ys (front, left, split, some, done) is = (front, left, is ∙ split, some, done)

@@ -1,5 +1,5 @@
 -- What the words meant, from what was answered of them.
-use Rattle.std.proofs.Common.{◌≡◌, ◌∙◌, sym, ap, refl, ℕ, List, [], Option, None, Some, Result, Err, inl, take}
+use Rattle.std.proofs.Common.{◌≡◌, ◌∙◌, sym, ap, refl, ℕ, List, [], Option, None, Some, Result, Err, inl, inr, take, arith}
 use Rattle.std.proofs.KnownBytes.{Appends-nil}
 use Rattle.fc_hub.specs.Hubs.{Held}
 use Rattle.fc_words.specs.declared.commands.Command.{Command}
@@ -49,4 +49,4 @@ show_none limit left known =
 
 pub element_none : (limit id ce turns : ℕ) (left : Option (List ℕ)) (held : Option Held) (known : Option (List ℕ))
     → (how : Result ElementEnd Stop) × (9 ≡ element_status how) × ElementEnds limit id ce turns how left left held held known known
-element_none limit id ce turns left held known = (Err NoMemory, refl, inl (refl, none_written known _))
+element_none limit id ce turns left held known = (Err NoMemory, refl, inr (inl ([], consumes_none left, omega arith, refl), Appends-nil known))

@@ -3,6 +3,7 @@ pub mod Bytes
 pub mod Commands
 pub mod Cut
 pub mod Distinct
+pub mod Ending
 pub mod Hearing
 pub mod Holding
 pub mod Judged

@@ -1,5 +1,5 @@
 -- How an input that is to be empty was looked at.
-use Rattle.std.proofs.Common.{◌≡◌, ◌≢◌, ◌≤◌, ◌<◌, ℕ, List, [], ◌∷◌, ◌++◌, length, drop, refl, ap, ◌∙◌, append-nil, length-append, arith, Option, None, Some, Ok, Err}
+use Rattle.std.proofs.Common.{◌≡◌, ◌≢◌, ◌≤◌, ℕ, List, [], ◌∷◌, ◌++◌, length, drop, refl, ap, ◌∙◌, append-nil, length-append, arith, Option, None, Some, Ok, Err}
 use Rattle.std.specs.Io.KnownBytes.{Consumes, Keeps, IsAtEnd}
 use Rattle.std.proofs.KnownBytes.{Consumes-trans, Consumes-kept}
 use Rattle.std.proofs.lemmas.List.{length-drop}
@@ -22,8 +22,8 @@ pub memory_looked : (limit : ℕ) (e : Memory) (bytes : List ℕ) (before mid le
 memory_looked limit e bytes before mid left consumed kept le = (bytes, Consumes-kept before mid left bytes consumed kept, le)
 
 pub long_looked : (limit : ℕ) (bytes piece : List ℕ) (before mid left : Option (List ℕ)) → Consumes before mid bytes → Consumes mid left piece
-    → length bytes ≡ limit → 0 < length piece → LookEnds limit (Ok look.TooLong) before left
-long_looked limit bytes piece before mid left consumed more is some =
+    → length bytes ≡ limit → length piece ≡ 1 → LookEnds limit (Ok look.TooLong) before left
+long_looked limit bytes piece before mid left consumed more is one =
     (bytes ++ piece, Consumes-trans before mid left bytes piece consumed more, omega (arith, length-append bytes piece))
 
 pub end_looked : (limit count : ℕ) (how : Look) (bytes : List ℕ) (before mid left : Option (List ℕ)) → Consumes before mid bytes → Consumes mid left []

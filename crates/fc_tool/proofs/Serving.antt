@@ -5,7 +5,8 @@ use Rattle.fc_hub.specs.Hubs.{Held, holds, after_next, IsFirst, IsNext}
 use Rattle.fc_hub.specs.declared.event.HubEvent.{HubEvent}
 use Rattle.fc_hub.specs.declared.event.HubEvent.TheVariants.{Over}
 use Rattle.fc_hub.specs.declared.event.Act.{Act}
-use Rattle.fc_tool.specs.Acting.{Acts, ActsFront, AreAll, Went, WentInto, acted}
+use Rattle.fc_tool.specs.declared.acting.NodeStop.{NodeStop}
+use Rattle.fc_tool.specs.Acting.{Acts, ActsUntil, AreAll, Went, WentInto, acted}
 use Rattle.fc_tool.specs.ElementNode.{NodeState, acts_of, node_after, node_step, numbered}
 
 same_held : (h : Held) (t : ℕ) (acts : List (ℕ × Act)) → h.taken ≡ t → h.acts ≡ acts → h ≡ holds h.coming t acts
@@ -72,11 +73,11 @@ went_more (Some h) new next n es e (coming, split, took) acts =
     )
 
 -- a front of its acts was done
-pub went_into : (old new next : Option Held) (n : NodeState) (es : List HubEvent) (e : HubEvent) → Took old new n es e
-    → ActsFront new next (node_step (node_after n es) e).acts → WentInto old next n es e
-went_into None new next n es e took (front, back, parts, acts) = acts ∙ ap (option_map (acted front)) took
-went_into (Some h) new next n es e (coming, split, took) (front, back, parts, acts) =
-    (coming, front, back, split, parts, acts ∙ ap (option_map (acted front)) took)
+pub went_into : (stop : NodeStop) (old new next : Option Held) (n : NodeState) (es : List HubEvent) (e : HubEvent) → Took old new n es e
+    → ActsUntil stop new next (node_step (node_after n es) e).acts → WentInto stop old next n es e
+went_into stop None new next n es e took (front, left, parts, some, acts) = acts ∙ ap (option_map (acted front)) took
+went_into stop (Some h) new next n es e (coming, split, took) (front, left, parts, some, acts) =
+    (coming, front, left, split, parts, some, acts ∙ ap (option_map (acted front)) took)
 
 ended : (h : Held) (new : Option Held) (n : NodeState) (es coming : List HubEvent) → h.coming ≡ es ++ coming
     → new ≡ Some (after_next (holds coming (h.taken + length es) (h.acts ++ acts_of h.taken n es))) → IsFirst coming Over

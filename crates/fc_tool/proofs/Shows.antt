@@ -1,5 +1,5 @@
 -- What the lines that were written say of the bytes, and how `show` ends from how a piece of its input ended.
-use Rattle.std.proofs.Common.{◌≡◌, ◌≤◌, ◌<◌, ◌-◌, ◌+◌, ℕ, List, [], ◌∷◌, ◌++◌, length, take, append_assoc, append-nil, arith, refl, sym, ap, ◌∙◌, inl, inr, Option, Result, Ok, Err, None, Some, length-append}
+use Rattle.std.proofs.Common.{◌≡◌, ◌≤◌, ◌-◌, ◌+◌, ℕ, List, [], ◌∷◌, ◌++◌, length, take, append_assoc, append-nil, arith, refl, sym, ap, ◌∙◌, inl, inr, Option, Result, Ok, Err, None, Some, length-append}
 use Rattle.std.specs.Io.KnownBytes.{Appends, Consumes, Keeps, IsAtEnd}
 use Rattle.std.proofs.KnownBytes.{Appends-kept, Appends-nil, Appends-trans, Consumes-trans, Consumes-kept}
 use Rattle.std.proofs.lemmas.List.{take_all, take-append-le}
@@ -25,7 +25,7 @@ pub front_after : (a b c : Option (List ℕ)) (xs ys : List ℕ) → Appends a b
 front_after a b c xs ys first then_front =
     (xs ++ then_front.0, then_front.1, rw append_assoc (ap (λ l. xs ++ l) then_front.2), Appends-trans a b c xs then_front.0 first then_front.3)
 
-whole_front : (a b : Option (List ℕ)) (xs : List ℕ) → Appends a b xs → AppendsFront a b xs
+pub whole_front : (a b : Option (List ℕ)) (xs : List ℕ) → Appends a b xs → AppendsFront a b xs
 whole_front a b xs lines = (xs, [], sym (append-nil xs), lines)
 
 front_kept : (a b c : Option (List ℕ)) (xs : List ℕ) → AppendsFront a b xs → Keeps b c → AppendsFront a c xs
@@ -159,9 +159,9 @@ stopped_ends stop limit bytes hs rest piece fed before mid left old now new last
 
 -- a piece came past the limit
 pub too_long_ends : (limit : ℕ) (bytes : List ℕ) (hs : List Header) (rest piece : List ℕ) (before mid left old new : Option (List ℕ))
-    → Consumes before mid bytes → Consumes mid left piece → length bytes ≡ limit → 0 < length piece → Reaches bytes hs rest → IsPartial rest
+    → Consumes before mid bytes → Consumes mid left piece → length bytes ≡ limit → length piece ≡ 1 → Reaches bytes hs rest → IsPartial rest
     → Appends old new (text_of hs) → ShowEnds limit (Ok TooLong) before left old new
-too_long_ends limit bytes hs rest piece before mid left old new consumed more is some there partial lines =
+too_long_ends limit bytes hs rest piece before mid left old new consumed more is one there partial lines =
     let all : limit ≤ length bytes = omega arith in
     let le : length bytes ≤ limit = omega arith in
     let looked : take limit (bytes ++ piece) ≡ bytes = take-append-le limit bytes piece all ∙ take_all limit bytes le in (

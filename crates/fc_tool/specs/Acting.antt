@@ -1,6 +1,6 @@
 -- What a hub holds after acts and events: the acts stand behind those that were done, each with the number of events that
 -- were taken before it. This profile's own.
-use Rattle.std.specs.Prelude.{◌≡◌, ◌⊎◌, ℕ, ◌<◌, ◌+◌, List, ◌∷◌, ◌++◌, length, ⊤, Option, Some, None, Result, Ok, Err, option_map}
+use Rattle.std.specs.Prelude.{◌≡◌, ◌≢◌, ◌⊎◌, ℕ, ◌<◌, ◌+◌, List, [], ◌∷◌, ◌++◌, length, ⊤, Option, Some, None, Result, Ok, Err, option_map}
 use Rattle.fc_base.specs.Causes.{Rose}
 use Rattle.fc_hub.specs.Hubs.{Held, holds}
 use Rattle.fc_hub.specs.declared.event.HubEvent.{HubEvent}
@@ -19,9 +19,16 @@ acted acts held = holds held.coming held.taken (held.acts ++ numbered held.taken
 abbrev pub Acts : Option Held → Option Held → List Act → Type 0
 Acts old new acts = new ≡ option_map (acted acts) old
 
--- a front of these acts was done
-abbrev pub ActsFront : Option Held → Option Held → List Act → Type 0
-ActsFront old new acts = (front : List Act) × (back : List Act) × (acts ≡ front ++ back) × Acts old new front
+-- The acts that were not done where a node stopped within acts. Where the hub failed these are the act that failed and all
+-- behind it, so there is one.
+abbrev pub AreLeft : NodeStop → List Act → Type 0
+AreLeft HubFault left = left ≢ []
+AreLeft NoMemory left = ⊤
+
+-- a front of these acts was done, and then the node stopped
+abbrev pub ActsUntil : NodeStop → Option Held → Option Held → List Act → Type 0
+ActsUntil stop old new acts =
+    (front : List Act) × (left : List Act) × (acts ≡ front ++ left) × AreLeft stop left × Acts old new front
 
 -- the count of the hub: it rose exactly where the hub failed
 abbrev pub HubCount : {T : Type 0} → Result T NodeStop → ℕ → ℕ → Type 0
@@ -36,17 +43,17 @@ Went (Some held) new n events =
     (coming : List HubEvent) × (held.coming ≡ events ++ coming)
     × (new ≡ Some (holds coming (held.taken + length events) (held.acts ++ acts_of held.taken n events)))
 
--- Those events and one more were taken, and of its acts a front was done.
-abbrev pub WentInto : Option Held → Option Held → NodeState → List HubEvent → HubEvent → Type 0
-WentInto None new n events last = new ≡ None
-WentInto (Some held) new n events last =
-    (coming : List HubEvent) × (front : List Act) × (back : List Act)
-    × (held.coming ≡ events ++ last ∷ coming) × ((node_step (node_after n events) last).acts ≡ front ++ back)
+-- Those events and one more were taken, and of its acts a front was done until the node stopped.
+abbrev pub WentInto : NodeStop → Option Held → Option Held → NodeState → List HubEvent → HubEvent → Type 0
+WentInto stop None new n events last = new ≡ None
+WentInto stop (Some held) new n events last =
+    (coming : List HubEvent) × (front : List Act) × (left : List Act)
+    × (held.coming ≡ events ++ last ∷ coming) × ((node_step (node_after n events) last).acts ≡ front ++ left) × AreLeft stop left
     × (new ≡ Some (holds coming (held.taken + length events + 1) (held.acts ++ acts_of held.taken n events ++ numbered (held.taken + length events + 1) front)))
 
--- a node stopped: between two events, or within the acts of one
-abbrev pub Broke : Option Held → Option Held → NodeState → List HubEvent → Type 0
-Broke old new n events = Went old new n events ⊎ ((last : HubEvent) × WentInto old new n events last)
+-- a node stopped so: where it was to take the next event, or within the acts of one
+abbrev pub Broke : NodeStop → Option Held → Option Held → NodeState → List HubEvent → Type 0
+Broke stop old new n events = Went old new n events ⊎ ((last : HubEvent) × WentInto stop old new n events last)
 
 -- the events that were taken are all that the hub told
 abbrev pub AreAll : Option Held → List HubEvent → Type 0
@@ -60,4 +67,4 @@ ServeEnds (Ok Over) turns n last old new =
     (events : List HubEvent) × (length events < turns) × Went old new n events × AreAll old events × (last ≡ node_after n events)
 ServeEnds (Ok Turns) turns n last old new =
     (events : List HubEvent) × (length events ≡ turns) × Went old new n events × (last ≡ node_after n events)
-ServeEnds (Err stop) turns n last old new = (events : List HubEvent) × (length events < turns) × Broke old new n events
+ServeEnds (Err stop) turns n last old new = (events : List HubEvent) × (length events < turns) × Broke stop old new n events

@@ -1,5 +1,5 @@
 -- What `element` reads, does on its hub and writes, by how it ends. This profile's own.
-use Rattle.std.specs.Prelude.{◌≡◌, ◌⊎◌, ◌<◌, ◌≤◌, ℕ, List, [], length, codes, Option, Result, Ok, Err}
+use Rattle.std.specs.Prelude.{◌≡◌, ◌⊎◌, ◌<◌, ◌≤◌, ◌+◌, ℕ, List, [], length, codes, Option, Result, Ok, Err}
 use Rattle.std.specs.Io.KnownBytes.{Appends, Consumes, IsAtEnd}
 use Rattle.fc_base.specs.Causes.{Rose}
 use Rattle.fc_base.specs.Content.{AppendsFront}
@@ -12,6 +12,8 @@ use Rattle.fc_tool.specs.declared.element.ElementEnd.TheVariants.{Done, ReadFaul
 use Rattle.fc_tool.specs.declared.input.Look.{Look}
 use Rattle.fc_tool.specs.declared.input.Look.TheVariants as look
 use Rattle.fc_tool.specs.declared.stops.Stop.{Stop}
+use Rattle.fc_tool.specs.declared.stops.Stop.TheVariants.{WriteFault, NoMemory}
+use Rattle.fc_tool.specs.declared.acting.NodeStop.TheVariants as stop
 use Rattle.fc_tool.specs.Acting.{AreAll, Broke, Went}
 use Rattle.fc_tool.specs.ElementNode.{first_node, node_after}
 use Rattle.fc_tool.specs.Stops.{stop_status}
@@ -21,7 +23,7 @@ abbrev pub LookEnds : ℕ → Result Look Memory → Option (List ℕ) → Optio
 LookEnds limit (Ok look.Nothing) before left = Consumes before left [] × IsAtEnd left
 LookEnds limit (Ok look.Something) before left =
     (bytes : List ℕ) × Consumes before left bytes × IsAtEnd left × (0 < length bytes) × (length bytes ≤ limit)
-LookEnds limit (Ok look.TooLong) before left = (bytes : List ℕ) × Consumes before left bytes × (limit < length bytes)
+LookEnds limit (Ok look.TooLong) before left = (bytes : List ℕ) × Consumes before left bytes × (length bytes ≡ limit + 1)
 LookEnds limit (Ok look.ReadFault) before left = (bytes : List ℕ) × Consumes before left bytes × (length bytes ≤ limit)
 LookEnds limit (Err e) before left = (bytes : List ℕ) × Consumes before left bytes × (length bytes ≤ limit)
 
@@ -40,47 +42,82 @@ not_built_text = codes "refused library notbuilt\n"
 abbrev pub report_after : ℕ → ℕ → List HubEvent → List ℕ
 report_after id ce events = report_of (node_after (first_node id ce) events).element
 
+-- what was seen of the input where `element` ends so
+abbrev pub look_of : ElementEnd → Look
+look_of Done = look.Nothing
+look_of Turns = look.Nothing
+look_of HubFault = look.Nothing
+look_of Refused = look.Something
+look_of ReadFault = look.ReadFault
+look_of TooLong = look.TooLong
+
+-- what was done on the hub where `element` ends so, of these events
+abbrev pub ActedSo : ℕ → ℕ → ℕ → ElementEnd → List HubEvent → Option Held → Option Held → Type 0
+-- the hub has no more events: all of them were taken, fewer than are to be taken
+ActedSo id ce turns Done events old new = (length events < turns) × Went old new (first_node id ce) events × AreAll old events
+-- so many events were taken as are to be taken
+ActedSo id ce turns Turns events old new = (length events ≡ turns) × Went old new (first_node id ce) events
+-- the hub failed: the acts of the events before stand, and a front of those of the last, but not all
+ActedSo id ce turns HubFault events old new = (length events < turns) × Broke stop.HubFault old new (first_node id ce) events
+-- the input was not empty, or can't be read: nothing was done
+ActedSo id ce turns Refused events old new = new ≡ old
+ActedSo id ce turns ReadFault events old new = new ≡ old
+ActedSo id ce turns TooLong events old new = new ≡ old
+
+-- what is written where `element` ends so
+abbrev pub element_text : ℕ → ℕ → ElementEnd → List HubEvent → List ℕ
+element_text id ce Done events = report_after id ce events
+element_text id ce Turns events = report_after id ce events
+element_text id ce HubFault events = []
+element_text id ce Refused events = not_built_text
+element_text id ce ReadFault events = []
+element_text id ce TooLong events = []
+
+-- `element` came to an end over these events: all of it but what was written
+abbrev pub ElementWent : ℕ → ℕ → ℕ → ℕ → ElementEnd → List HubEvent → Option (List ℕ) → Option (List ℕ) → Option Held → Option Held → Type 0
+ElementWent limit id ce turns end events before left old new =
+    LookEnds limit (Ok (look_of end)) before left × ActedSo id ce turns end events old new
+
+-- it came to some end, and of what belongs to that a front was written
+abbrev pub ElementCut : ℕ → ℕ → ℕ → ℕ → Option (List ℕ) → Option (List ℕ) → Option Held → Option Held → Option (List ℕ) → Option (List ℕ) → Type 0
+ElementCut limit id ce turns before left old new text now =
+    (end : ElementEnd) × (events : List HubEvent) × ElementWent limit id ce turns end events before left old new
+    × AppendsFront text now (element_text id ce end events)
+
+-- memory lacked over the hub: before the first event, or over one that is among those to be taken
+abbrev pub HubLacked : ℕ → ℕ → ℕ → Option Held → Option Held → Type 0
+HubLacked id ce turns old new =
+    (new ≡ old) ⊎ ((events : List HubEvent) × (length events < turns) × Broke stop.NoMemory old new (first_node id ce) events)
+
+-- memory lacked before it came to an end: while the input was looked at, or over the hub
+abbrev pub ElementLacked : ℕ → ℕ → ℕ → ℕ → Option (List ℕ) → Option (List ℕ) → Option Held → Option Held → Type 0
+ElementLacked limit id ce turns before left old new =
+    ((bytes : List ℕ) × Consumes before left bytes × (length bytes ≤ limit) × (new ≡ old))
+    ⊎ (LookEnds limit (Ok look.Nothing) before left × HubLacked id ce turns old new)
+
 -- How `element` ends: what was read, what was done on the hub, and what was written.
 abbrev pub ElementEnds : ℕ → ℕ → ℕ → ℕ → Result ElementEnd Stop → Option (List ℕ) → Option (List ℕ) → Option Held → Option Held → Option (List ℕ) → Option (List ℕ) → Type 0
--- the hub has no more events: all of them were taken, fewer than are to be taken, and the report stands
-ElementEnds limit id ce turns (Ok Done) before left old new text now =
-    Consumes before left [] × IsAtEnd left
-    × (events : List HubEvent) × (length events < turns) × Went old new (first_node id ce) events × AreAll old events × Appends text now (report_after id ce events)
--- so many events were taken as are to be taken, and the report stands
-ElementEnds limit id ce turns (Ok Turns) before left old new text now =
-    Consumes before left [] × IsAtEnd left
-    × (events : List HubEvent) × (length events ≡ turns) × Went old new (first_node id ce) events × Appends text now (report_after id ce events)
--- the hub failed: the acts of the events before stand, and a front of those of the last
-ElementEnds limit id ce turns (Ok HubFault) before left old new text now =
-    Consumes before left [] × IsAtEnd left
-    × (events : List HubEvent) × (length events < turns) × Broke old new (first_node id ce) events × Appends text now []
--- the input is not empty
-ElementEnds limit id ce turns (Ok Refused) before left old new text now =
-    (bytes : List ℕ) × Consumes before left bytes × IsAtEnd left × (0 < length bytes) × (length bytes ≤ limit) × (new ≡ old) × Appends text now not_built_text
--- the input can't be read
-ElementEnds limit id ce turns (Ok ReadFault) before left old new text now =
-    (bytes : List ℕ) × Consumes before left bytes × (length bytes ≤ limit) × (new ≡ old) × Appends text now []
--- the input is longer than is looked at
-ElementEnds limit id ce turns (Ok TooLong) before left old new text now =
-    (bytes : List ℕ) × Consumes before left bytes × (limit < length bytes) × (new ≡ old) × Appends text now []
--- the writing stopped, or there was no memory: the acts are a front, and so is what was written
-ElementEnds limit id ce turns (Err stop) before left old new text now =
-    ((new ≡ old) × AppendsFront text now not_built_text)
-    ⊎ ((events : List HubEvent) × Broke old new (first_node id ce) events × AppendsFront text now (report_after id ce events))
+-- all was written
+ElementEnds limit id ce turns (Ok end) before left old new text now =
+    (events : List HubEvent) × ElementWent limit id ce turns end events before left old new × Appends text now (element_text id ce end events)
+-- the sink failed
+ElementEnds limit id ce turns (Err WriteFault) before left old new text now = ElementCut limit id ce turns before left old new text now
+-- memory lacked for what was to be written, or before anything was
+ElementEnds limit id ce turns (Err NoMemory) before left old new text now =
+    ElementCut limit id ce turns before left old new text now
+    ⊎ (ElementLacked limit id ce turns before left old new × Appends text now [])
 
 -- the same of the hub and of what was written alone, once the input was seen to be empty
+abbrev pub RunCut : ℕ → ℕ → ℕ → Option Held → Option Held → Option (List ℕ) → Option (List ℕ) → Type 0
+RunCut id ce turns old new text now =
+    (end : ElementEnd) × (events : List HubEvent) × (look_of end ≡ look.Nothing) × ActedSo id ce turns end events old new
+    × AppendsFront text now (element_text id ce end events)
+
 abbrev pub RunEnds : ℕ → ℕ → ℕ → Result ElementEnd Stop → Option Held → Option Held → Option (List ℕ) → Option (List ℕ) → Type 0
-RunEnds id ce turns (Ok Done) old new text now =
-    (events : List HubEvent) × (length events < turns) × Went old new (first_node id ce) events × AreAll old events × Appends text now (report_after id ce events)
-RunEnds id ce turns (Ok Turns) old new text now =
-    (events : List HubEvent) × (length events ≡ turns) × Went old new (first_node id ce) events × Appends text now (report_after id ce events)
-RunEnds id ce turns (Ok HubFault) old new text now =
-    (events : List HubEvent) × (length events < turns) × Broke old new (first_node id ce) events × Appends text now []
-RunEnds id ce turns (Ok Refused) old new text now = ⊥
-RunEnds id ce turns (Ok ReadFault) old new text now = ⊥
-RunEnds id ce turns (Ok TooLong) old new text now = ⊥
-RunEnds id ce turns (Err stop) old new text now =
-    (events : List HubEvent) × Broke old new (first_node id ce) events × AppendsFront text now (report_after id ce events)
+RunEnds id ce turns (Ok end) old new text now =
+    (events : List HubEvent) × (look_of end ≡ look.Nothing) × ActedSo id ce turns end events old new × Appends text now (element_text id ce end events)
+RunEnds id ce turns (Err WriteFault) old new text now = RunCut id ce turns old new text now
+RunEnds id ce turns (Err NoMemory) old new text now = RunCut id ce turns old new text now ⊎ (HubLacked id ce turns old new × Appends text now [])
 
 -- the counts of the source and of the hub; the writing may stop after one of them has failed
 abbrev pub ElementSource : Result ElementEnd Stop → ℕ → ℕ → Type 0

@@ -1,5 +1,5 @@
 -- What `show` writes of the bytes that it read, by how it ends. This profile's own.
-use Rattle.std.specs.Prelude.{◌≡◌, ◌≢◌, ◌⊎◌, ◌<◌, ◌≤◌, ◌-◌, ℕ, List, [], ◌∷◌, ◌++◌, length, take, Option, Some, None, Result, Ok, Err, ⊤}
+use Rattle.std.specs.Prelude.{◌≡◌, ◌≢◌, ◌⊎◌, ◌≤◌, ◌+◌, ◌-◌, ℕ, List, [], ◌∷◌, ◌++◌, length, take, Option, Some, None, Result, Ok, Err, ⊤}
 use Rattle.std.specs.List.{flat_map}
 use Rattle.std.specs.Io.KnownBytes.{Appends, Consumes, IsAtEnd}
 use Rattle.fc_base.specs.Causes.{Rose}
@@ -89,9 +89,9 @@ Ends limit Refused bytes left old new =
     (hs : List Header) × (rest : List ℕ) × (frame : List ℕ) × (fault : Fault) × Reaches (take limit bytes) hs rest
     × IsNext (IsAtEnd left × (length bytes ≤ limit)) rest frame × (fault_of frame ≡ Some fault)
     × Appends old new (text_of hs ++ refusal_text (length (take limit bytes) - length rest) fault)
--- more came than is looked at, and what is looked at is heartbeats and less than a frame
+-- one byte more came than is looked at, and what is looked at is heartbeats and less than a frame
 Ends limit TooLong bytes left old new =
-    (limit < length bytes) × (hs : List Header) × (rest : List ℕ) × Reaches (take limit bytes) hs rest × IsPartial rest × Appends old new (text_of hs)
+    (length bytes ≡ limit + 1) × (hs : List Header) × (rest : List ℕ) × Reaches (take limit bytes) hs rest × IsPartial rest × Appends old new (text_of hs)
 
 -- the same, where the writing may have stopped
 abbrev pub EndsSo : ℕ → Result Shown Stop → List ℕ → Option (List ℕ) → Option (List ℕ) → Option (List ℕ) → Type 0

@@ -1,8 +1,8 @@
 // The acts of a node on its hub.
-ghost use Rattle.std.specs.Prelude.{◌≡◌, [], ◌∷◌, OnOk, OnErr};
+ghost use Rattle.std.specs.Prelude.{◌≡◌, [], ◌∷◌, OnOk, OnErr, IfErr};
 ghost use Rattle.fc_hub.specs.declared.event.Act.TheVariants.{Sent, Shut};
 ghost use Rattle.fc_msg.specs.Messages.{canonical};
-ghost use Rattle.fc_tool.specs.Acting.{Acts, ActsFront, HubCount};
+ghost use Rattle.fc_tool.specs.Acting.{Acts, ActsUntil, HubCount};
 ghost use Rattle.fc_tool.specs.ElementNode.{sent};
 
 use fc_base::{Memory, Trouble};
@@ -60,10 +60,10 @@ fn send<H: Hub>(alloc: Global, hub: &mut H, out: &Out) -> Result<(), NodeStop>
     }
 }
 
-/// Sends messages in their order. After an `Err` a front of them was sent.
+/// Sends messages in their order. After an `Err` a front of them was sent, and where the hub failed not all.
 pub fn send_all<H: Hub>(alloc: Global, hub: &mut H, outs: &[Out]) -> Result<(), NodeStop>
     ensures ok { OnOk result (Acts (H.held hub.old) (H.held hub.new) (sent outs.now)) }
-    ensures err { OnErr result (ActsFront (H.held hub.old) (H.held hub.new) (sent outs.now)) }
+    ensures err { IfErr result (λ stop. ActsUntil stop (H.held hub.old) (H.held hub.new) (sent outs.now)) }
     ensures count { HubCount result (H.faults hub.old) (H.faults hub.new) }
 {
     for out in outs {

@@ -1,6 +1,6 @@
 // The frames of a peer as inputs of an element.
-ghost use Rattle.std.specs.Prelude.{◌≡◌, true, IfOk, OnOk, OnErr, IsTrue};
-ghost use Rattle.fc_tool.specs.Acting.{Acts, ActsFront, HubCount};
+ghost use Rattle.std.specs.Prelude.{◌≡◌, true, IfOk, IfErr, OnOk, OnErr, IsTrue};
+ghost use Rattle.fc_tool.specs.Acting.{Acts, ActsUntil, HubCount};
 ghost use Rattle.fc_tool.specs.ElementNode.{frames, hears, rest};
 ghost use Rattle.fc_tool.specs.Nexts.{IsNextOf};
 
@@ -15,7 +15,7 @@ use std::alloc::Global;
 
 /// Gives each whole frame of a peer to the element as a message, sending what the element gives before it goes on, and
 /// says whether the peer stays open: the first frame that is no message shuts it. After an `Err` a front of the acts was
-/// done.
+/// done, and where the hub failed not all.
 pub fn deliver<H: Hub>(
     alloc: Global,
     hub: &mut H,
@@ -27,7 +27,7 @@ pub fn deliver<H: Hub>(
     ensures element { OnOk result (element.new ≡ (hears element.old peer (frames splitter.old)).element) }
     ensures rest { IfOk result (λ stays. stays ≡ true → splitter.new ≡ rest splitter.old) }
     ensures acts { OnOk result (Acts (H.held hub.old) (H.held hub.new) (hears element.old peer (frames splitter.old)).acts) }
-    ensures err { OnErr result (ActsFront (H.held hub.old) (H.held hub.new) (hears element.old peer (frames splitter.old)).acts) }
+    ensures err { IfErr result (λ stop. ActsUntil stop (H.held hub.old) (H.held hub.new) (hears element.old peer (frames splitter.old)).acts) }
     ensures count { HubCount result (H.faults hub.old) (H.faults hub.new) }
 {
     'frames: loop {

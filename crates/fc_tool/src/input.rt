@@ -33,6 +33,7 @@ pub fn next_piece(left: usize) -> usize
     ensures some { 0 < result }
     ensures most { result ≤ 65536 }
     ensures within { left ≢ 0 → result ≤ left }
+    ensures one { left ≡ 0 → result ≡ 1 }
 {
     if left == 0 { 1 } else { left.min(PIECE) }
 }

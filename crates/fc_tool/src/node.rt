@@ -1,6 +1,6 @@
 // A forwarding element behind a hub.
-ghost use Rattle.std.specs.Prelude.{◌≡◌, None, IfOk, OnOk, OnErr};
-ghost use Rattle.fc_tool.specs.Acting.{Acts, ActsFront, HubCount};
+ghost use Rattle.std.specs.Prelude.{◌≡◌, None, IfOk, OnOk, IfErr};
+ghost use Rattle.fc_tool.specs.Acting.{Acts, ActsUntil, HubCount};
 ghost use Rattle.fc_tool.specs.ElementNode.{first_node, left_of, node, node_step, on_bytes, on_closed, on_opened};
 
 use crate::acting::{NodeStop, shut};
@@ -43,11 +43,11 @@ impl Node {
         &self.element
     }
 
-    /// Takes an event, and does its acts. After an `Err` a front of them was done.
+    /// Takes an event, and does its acts. After an `Err` a front of them was done, and where the hub failed not all.
     pub fn take<H: Hub>(&mut self, hub: &mut H, event: HubEvent) -> Result<(), NodeStop>
         ensures ok { OnOk result (node self.new.element self.new.peers.items ≡ (node_step (node self.old.element self.old.peers.items) event).state) }
         ensures acts { OnOk result (Acts (H.held hub.old) (H.held hub.new) (node_step (node self.old.element self.old.peers.items) event).acts) }
-        ensures err { OnErr result (ActsFront (H.held hub.old) (H.held hub.new) (node_step (node self.old.element self.old.peers.items) event).acts) }
+        ensures err { IfErr result (λ stop. ActsUntil stop (H.held hub.old) (H.held hub.new) (node_step (node self.old.element self.old.peers.items) event).acts) }
         ensures count { HubCount result (H.faults hub.old) (H.faults hub.new) }
     {
         match event {
@@ -65,7 +65,7 @@ impl Node {
     fn opened<H: Hub>(&mut self, hub: &mut H, peer: u32) -> Result<(), NodeStop>
         ensures ok { OnOk result (node self.new.element self.new.peers.items ≡ (on_opened (node self.old.element self.old.peers.items) peer (left_of peer self.old.peers.items)).state) }
         ensures acts { OnOk result (Acts (H.held hub.old) (H.held hub.new) (on_opened (node self.old.element self.old.peers.items) peer (left_of peer self.old.peers.items)).acts) }
-        ensures err { OnErr result (ActsFront (H.held hub.old) (H.held hub.new) (on_opened (node self.old.element self.old.peers.items) peer (left_of peer self.old.peers.items)).acts) }
+        ensures err { IfErr result (λ stop. ActsUntil stop (H.held hub.old) (H.held hub.new) (on_opened (node self.old.element self.old.peers.items) peer (left_of peer self.old.peers.items)).acts) }
         ensures count { HubCount result (H.faults hub.old) (H.faults hub.new) }
     {
         match put(&mut self.peers, peer, Splitter::new(self.alloc)) {
@@ -78,7 +78,7 @@ impl Node {
     fn first_opened<H: Hub>(&mut self, hub: &mut H, peer: u32) -> Result<(), NodeStop>
         ensures ok { OnOk result (node self.new.element self.new.peers.items ≡ (on_opened (node self.old.element self.old.peers.items) peer None).state) }
         ensures acts { OnOk result (Acts (H.held hub.old) (H.held hub.new) (on_opened (node self.old.element self.old.peers.items) peer None).acts) }
-        ensures err { OnErr result (ActsFront (H.held hub.old) (H.held hub.new) (on_opened (node self.old.element self.old.peers.items) peer None).acts) }
+        ensures err { IfErr result (λ stop. ActsUntil stop (H.held hub.old) (H.held hub.new) (on_opened (node self.old.element self.old.peers.items) peer None).acts) }
         ensures count { HubCount result (H.faults hub.old) (H.faults hub.new) }
     {
         if self.peers.len() >= MOST_PEERS {
@@ -96,7 +96,7 @@ impl Node {
     fn bytes<H: Hub>(&mut self, hub: &mut H, peer: u32, piece: &[u8]) -> Result<(), NodeStop>
         ensures ok { OnOk result (node self.new.element self.new.peers.items ≡ (on_bytes (node self.old.element self.old.peers.items) peer piece.now (left_of peer self.old.peers.items)).state) }
         ensures acts { OnOk result (Acts (H.held hub.old) (H.held hub.new) (on_bytes (node self.old.element self.old.peers.items) peer piece.now (left_of peer self.old.peers.items)).acts) }
-        ensures err { OnErr result (ActsFront (H.held hub.old) (H.held hub.new) (on_bytes (node self.old.element self.old.peers.items) peer piece.now (left_of peer self.old.peers.items)).acts) }
+        ensures err { IfErr result (λ stop. ActsUntil stop (H.held hub.old) (H.held hub.new) (on_bytes (node self.old.element self.old.peers.items) peer piece.now (left_of peer self.old.peers.items)).acts) }
         ensures count { HubCount result (H.faults hub.old) (H.faults hub.new) }
     {
         let Some(mut splitter) = put(&mut self.peers, peer, Splitter::new(self.alloc)) else {
@@ -123,7 +123,7 @@ impl Node {
     fn closed<H: Hub>(&mut self, hub: &mut H, peer: u32) -> Result<(), NodeStop>
         ensures ok { OnOk result (node self.new.element self.new.peers.items ≡ (on_closed (node self.old.element self.old.peers.items) peer (left_of peer self.old.peers.items)).state) }
         ensures acts { OnOk result (Acts (H.held hub.old) (H.held hub.new) (on_closed (node self.old.element self.old.peers.items) peer (left_of peer self.old.peers.items)).acts) }
-        ensures err { OnErr result (ActsFront (H.held hub.old) (H.held hub.new) (on_closed (node self.old.element self.old.peers.items) peer (left_of peer self.old.peers.items)).acts) }
+        ensures err { IfErr result (λ stop. ActsUntil stop (H.held hub.old) (H.held hub.new) (on_closed (node self.old.element self.old.peers.items) peer (left_of peer self.old.peers.items)).acts) }
         ensures count { HubCount result (H.faults hub.old) (H.faults hub.new) }
     {
         if remove(&mut self.peers, peer) {

@@ -1,5 +1,5 @@
 use Rattle.std.proofs.Common.{◌∙◌, refl}
-use Rattle.fc_tool.proofs.Acts.{acts_none, sent_front, sent_more}
+use Rattle.fc_tool.proofs.Acts.{acts_none, sent_more, sent_until}
 use Rattle.fc_tool.proofs.acting.send_all.Goals as goal
 
 pub loop-out-init : goal.loop-out-init
@@ -12,4 +12,5 @@ loop-out-preserved g c = record {
 }
 
 pub returns-in-Err-clause-err : goal.returns-in-Err-clause-err
-returns-in-Err-clause-err g c = sent_front _ _ _ c.args.outs.now c.loop-out.out-index c.loop-out.invariant.done c.in-Err.ensures.err
+returns-in-Err-clause-err g c =
+    sent_until c.in-Err.stop _ _ _ c.args.outs.now c.loop-out.out-index c.out-item.result c.loop-out-test.true c.out-item.is c.loop-out.invariant.done c.in-Err.ensures.err

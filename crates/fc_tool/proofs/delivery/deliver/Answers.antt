@@ -5,7 +5,7 @@ use Rattle.fc_element.specs.declared.input.ElIn.TheVariants.{Arrived}
 use Rattle.fc_element.specs.ElementMachine.{step}
 use Rattle.fc_hub.specs.declared.event.Act.TheVariants.{Shut}
 use Rattle.fc_tool.specs.ElementNode.{frames, hears, rest, sent}
-use Rattle.fc_tool.proofs.Acts.{acts_none, acts_on, acts_same, front_longer, front_on, front_same}
+use Rattle.fc_tool.proofs.Acts.{acts_none, acts_on, acts_same, until_here, until_longer, until_on, until_same}
 use Rattle.fc_tool.proofs.Hearing.{before, heard_all, heard_more, heard_no_message, rest_all, rest_more}
 use Rattle.fc_tool.proofs.delivery.deliver.Goals as goal
 
@@ -66,7 +66,8 @@ returns-in-Err-give-clause-err g c =
     let (acts, done, is) = c.frames.invariant.heard in
     let (le, message, left) = rw c.in-Ok-Arrived.field-0-is at c.in-Ok-Arrived.ensures.next in
     let more = heard_more _ acts c.frames.element c.args.peer c.frames.splitter c.in-Ok-Arrived.message is le message in
-    front_same _ _ _ _ (front_longer _ _ _ _ (front_on _ _ _ acts _ done c.in-Err-give.ensures.err)) (ap (λ h. h.acts) more)
+    let stop = c.in-Err-give.stop in
+    until_same stop _ _ _ _ (until_longer stop _ _ _ _ (until_on stop _ _ _ acts _ done c.in-Err-give.ensures.err)) (ap (λ h. h.acts) more)
 
 pub returns-in-Ok-shut-clause-stays : goal.returns-in-Ok-shut-clause-stays
 returns-in-Ok-shut-clause-stays g c =
@@ -85,4 +86,12 @@ returns-in-Ok-shut-clause-acts g c =
     let (acts, done, is) = c.frames.invariant.heard in
     let (le, none, same) = rw c.in-Ok-NoMessage.field-0-is at c.in-Ok-NoMessage.ensures.next in
     acts_same _ _ _ _ (acts_on _ _ _ acts (Shut c.args.peer ∷ []) done c.in-Ok-shut.ensures.ok)
+    (ap (λ h. h.acts) (heard_no_message _ acts c.frames.element c.args.peer c.frames.splitter is le none))
+
+pub returns-in-Err-shut-clause-err : goal.returns-in-Err-shut-clause-err
+returns-in-Err-shut-clause-err g c =
+    let (acts, done, is) = c.frames.invariant.heard in
+    let (le, none, same) = rw c.in-Ok-NoMessage.field-0-is at c.in-Ok-NoMessage.ensures.next in
+    let stop = c.in-Err-shut.stop in
+    until_same stop _ _ _ _ (until_here stop _ _ _ acts (Shut c.args.peer) [] done c.in-Err-shut.ensures.err)
     (ap (λ h. h.acts) (heard_no_message _ acts c.frames.element c.args.peer c.frames.splitter is le none))

@@ -1,4 +1,4 @@
-use Rattle.std.proofs.Common.{◌++◌, ◌∙◌, length-append, arith}
+use Rattle.std.proofs.Common.{◌≡◌, ◌++◌, ◌∙◌, length, length-append, arith}
 use Rattle.std.proofs.KnownBytes.{Consumes-trans}
 use Rattle.fc_tool.proofs.Looking.{all_dropped, long_looked}
 use Rattle.fc_tool.proofs.input.look_over.Goals as goal
@@ -19,4 +19,5 @@ pub returns-then-left-eq0-clause-ends : goal.returns-then-left-eq0-clause-ends
 returns-then-left-eq0-clause-ends g c =
     let (bytes, consumed, count) = c.reads.invariant.read in
     let (piece, is, size, most, more, end) = c.in-Ok.ensures.fed in
-    long_looked _ bytes piece _ _ _ consumed more (omega arith) (omega arith)
+    let one : length piece ≡ 1 = omega (arith, size, most, c.next_piece.ensures.one c.if-left-eq0.true) in
+    long_looked 67108864 bytes piece _ _ _ consumed more (omega arith) one

@@ -1,4 +1,4 @@
-use Rattle.std.proofs.Common.{◌≡◌, ◌++◌, [], arith, ◌∙◌, append-nil, length-append}
+use Rattle.std.proofs.Common.{◌≡◌, ◌++◌, [], arith, length, ◌∙◌, append-nil, length-append}
 use Rattle.std.proofs.KnownBytes.{Consumes-trans}
 use Rattle.fc_tool.specs.declared.stops.Stop.TheVariants.{NoMemory}
 use Rattle.fc_tool.proofs.Reaching.{reaches_on, reaches_fed}
@@ -23,7 +23,8 @@ pub returns-then-left-eq0-clause-ends : goal.returns-then-left-eq0-clause-ends
 returns-then-left-eq0-clause-ends g c =
     let (bytes, hs, consumed, count, there, lines) = c.reads.invariant.shown in
     let (piece, is, size, most, more, end) = c.in-Ok.ensures.fed in
-    too_long_ends _ bytes hs _ piece _ _ _ _ _ consumed more (omega arith) (omega arith) there c.reads.invariant.partial lines
+    let one : length piece ≡ 1 = omega (arith, size, most, c.next_piece.ensures.one c.if-left-eq0.true) in
+    too_long_ends 67108864 bytes hs _ piece _ _ _ _ _ consumed more (omega arith) one there c.reads.invariant.partial lines
 
 pub returns-in-Ok-Some-clause-ends : goal.returns-in-Ok-Some-clause-ends
 returns-in-Ok-Some-clause-ends g c =
