@@ -412,6 +412,14 @@ fn sent(alloc: Global, taken: u64, peer: u32, bytes: &[u8]) -> Result<(u64, Act)
     Ok((taken, Act::Sent(peer, Octets::from_slice(alloc, bytes)?)))
 }
 
+// The setup at the first event, and the answer to a heartbeat once so many were taken.
+fn setup_and_answer(alloc: Global, taken: u64) -> Result<Vec<(u64, Act)>, Fail> {
+    let mut acts = Vec::new(alloc);
+    acts.push(sent(alloc, 1, 1, &SETUP)?)?;
+    acts.push(sent(alloc, taken, 1, &ANSWER)?)?;
+    Ok(acts)
+}
+
 #[test]
 fn an_element_answers_the_heartbeat_of_its_controller(rt: HostRuntime) -> Result<(), Fail> {
     let alloc = rt.alloc();
@@ -419,10 +427,7 @@ fn an_element_answers_the_heartbeat_of_its_controller(rt: HostRuntime) -> Result
     let (status, text, hub) = ran(alloc, "element 2 40000001 a 1 9", none, greeting(alloc)?)?;
     assert_eq!(rt; status, 0);
     assert_eq!(rt; text.as_slice(), REPORT.as_bytes());
-    let mut wanted = Vec::new(alloc);
-    wanted.push(sent(alloc, 1, 1, &SETUP)?)?;
-    wanted.push(sent(alloc, 3, 1, &ANSWER)?)?;
-    assert_eq!(rt; hub.acts(), wanted.as_slice());
+    assert_eq!(rt; hub.acts(), setup_and_answer(alloc, 3)?.as_slice());
     Ok(())
 }
 
@@ -476,19 +481,24 @@ fn bytes_that_are_cut_anywhere_are_answered_alike(rt: HostRuntime) -> Result<(),
     let mut both = Vec::new(alloc);
     both.extend_from_slice(&ACCEPTED)?;
     both.extend_from_slice(&ASKING)?;
-    for cut in 1..both.len() {
+    // Cut in front of its first byte it is whole.
+    for cut in 0..both.len() {
         let mut events = Vec::new(alloc);
         events.push(HubEvent::Opened(1))?;
-        events.push(bytes_event(alloc, 1, &both[..cut])?)?;
+        if cut > 0 {
+            events.push(bytes_event(alloc, 1, &both[..cut])?)?;
+        }
         events.push(bytes_event(alloc, 1, &both[cut..])?)?;
+        let taken = events.len() as u64;
         let none = Vec::new(alloc);
         let (status, text, hub) = ran(alloc, "element 2 40000001 a 1 9", none, events)?;
         assert_eq!(rt; status, 0, "cut at {cut}");
         assert_eq!(rt; text.as_slice(), REPORT.as_bytes(), "cut at {cut}");
-        let mut wanted = Vec::new(alloc);
-        wanted.push(sent(alloc, 1, 1, &SETUP)?)?;
-        wanted.push(sent(alloc, 3, 1, &ANSWER)?)?;
-        assert_eq!(rt; hub.acts(), wanted.as_slice(), "cut at {cut}");
+        assert_eq!(rt;
+            hub.acts(),
+            setup_and_answer(alloc, taken)?.as_slice(),
+            "cut at {cut}"
+        );
     }
     Ok(())
 }
@@ -532,28 +542,28 @@ fn a_peer_beyond_the_sixty_fourth_is_closed(rt: HostRuntime) -> Result<(), Fail>
 fn each_call_of_the_hub_fails_in_turn(rt: HostRuntime) -> Result<(), Fail> {
     let alloc = rt.alloc();
     let words = words(alloc, "element 2 40000001 a 1 9")?;
-    // An event, the setup, an event, an event, the answer and the end are six calls.
-    for call in 1u64..8 {
+    // An event, the setup, two events, the answer, an event, the closing and the end are eight calls.
+    for call in 1u64..10 {
         let mut failing = Vec::new(alloc);
         failing.push(call)?;
         let mut input = SureSource::new(Vec::new(alloc), 1);
         let mut out = SureSink::new(alloc);
-        let events = greeting(alloc)?;
+        let mut events = greeting(alloc)?;
+        events.push(bytes_event(alloc, 1, &[0u8; 24])?)?;
         if !are_given(events.as_slice()) {
             return Err(Fail::from("no hub tells these events"));
         }
         let mut hub = MemHub::new(alloc, events, failing);
         let status = run(alloc, words.as_slice(), &mut input, &mut out, &mut hub);
-        assert_eq!(rt; status, if call < 7 { 4 } else { 0 }, "at {call}");
-        let done = if call < 3 {
-            0
-        } else if call < 6 {
-            1
-        } else {
-            2
+        assert_eq!(rt; status, if call < 9 { 4 } else { 0 }, "at {call}");
+        let done = match call {
+            1 | 2 => 0usize,
+            3..=5 => 1,
+            6 | 7 => 2,
+            _ => 3,
         };
         assert_eq!(rt; hub.acts().len(), done, "at {call}");
-        assert_eq!(rt; out.bytes().is_empty(), call < 7, "at {call}");
+        assert_eq!(rt; out.bytes().is_empty(), call < 9, "at {call}");
     }
     Ok(())
 }
