@@ -71,8 +71,9 @@ pub fn run<S: Source, K: Sink, H: Hub>(
         → (Rose (H.faults hub.old) (H.faults hub.new) → ⊥)
         → (result ≡ DONE) ⊎ ((result ≡ TURNS) ⊎ ((result ≡ REFUSED) ⊎ ((result ≡ TOO_LONG) ⊎ (result ≡ NO_MEMORY)))) }
 
-    // All that was written is flushed.
+    // All that was written is flushed, or where the writing stopped so much as was before.
     ensures flushed { result ≢ WRITE_FAULT → result ≢ NO_MEMORY → IsFlushed (K.written out.new) (K.flushed out.new) }
+    ensures unflushed { (result ≡ WRITE_FAULT) ⊎ (result ≡ NO_MEMORY) → K.flushed out.new ≡ K.flushed out.old }
 {
     let meant = match command(alloc, words) {
         Ok(meant) => meant,
@@ -89,7 +90,7 @@ pub fn run<S: Source, K: Sink, H: Hub>(
 
 fn usage<K: Sink>(out: &mut K) -> Result<(), Stop>
     ensures ends { UsageEnds result (K.written out.old) (K.written out.new) }
-    ensures flushed { FlushedAt result (K.written out.new) (K.flushed out.new) }
+    ensures flushed { FlushedAt result (K.written out.new) (K.flushed out.old) (K.flushed out.new) }
     ensures count { SinkCount result (K.faults out.old) (K.faults out.new) }
 {
     put(out, b"usage\n")?;

@@ -1,5 +1,5 @@
 // The command `element`.
-ghost use Rattle.std.specs.Prelude.{OnOk, OnErr};
+ghost use Rattle.std.specs.Prelude.{◌≡◌, OnOk, OnErr};
 ghost use Rattle.std.specs.Io.KnownBytes.{Appends};
 ghost use Rattle.fc_base.specs.Content.{AppendsFront};
 ghost use Rattle.fc_element.specs.ElementMachine.{report_of};
@@ -44,7 +44,7 @@ pub fn element<S: Source, K: Sink, H: Hub>(
     hub: &mut H,
 ) -> Result<ElementEnd, Stop>
     ensures ends { ElementEnds LIMIT fe ce turns result (S.left input.old) (S.left input.new) (H.held hub.old) (H.held hub.new) (K.written out.old) (K.written out.new) }
-    ensures flushed { FlushedAt result (K.written out.new) (K.flushed out.new) }
+    ensures flushed { FlushedAt result (K.written out.new) (K.flushed out.old) (K.flushed out.new) }
     ensures source { ElementSource result (S.faults input.old) (S.faults input.new) }
     ensures hub { ElementHub result (H.faults hub.old) (H.faults hub.new) }
     ensures sink { SinkCount result (K.faults out.old) (K.faults out.new) }
@@ -70,6 +70,7 @@ fn element_ends<S: Source, K: Sink, H: Hub>(
     hub: &mut H,
 ) -> Result<ElementEnd, Stop>
     ensures ends { ElementEnds LIMIT fe ce turns result (S.left input.old) (S.left input.new) (H.held hub.old) (H.held hub.new) (K.written out.old) (K.written out.new) }
+    ensures unflushed { K.flushed out.new ≡ K.flushed out.old }
     ensures source { ElementSource result (S.faults input.old) (S.faults input.new) }
     ensures hub { ElementHub result (H.faults hub.old) (H.faults hub.new) }
     ensures sink { SinkCount result (K.faults out.old) (K.faults out.new) }
@@ -96,6 +97,7 @@ fn run_element<K: Sink, H: Hub>(
     hub: &mut H,
 ) -> Result<ElementEnd, Stop>
     ensures ends { RunEnds fe ce turns result (H.held hub.old) (H.held hub.new) (K.written out.old) (K.written out.new) }
+    ensures unflushed { K.flushed out.new ≡ K.flushed out.old }
     ensures hub { ElementHub result (H.faults hub.old) (H.faults hub.new) }
     ensures sink { SinkCount result (K.faults out.old) (K.faults out.new) }
 {
@@ -120,6 +122,7 @@ fn run_element<K: Sink, H: Hub>(
 fn put_report<K: Sink>(alloc: Global, element: &Element, out: &mut K) -> Result<(), Stop>
     ensures ok { OnOk result (Appends (K.written out.old) (K.written out.new) (report_of element.now)) }
     ensures err { OnErr result (AppendsFront (K.written out.old) (K.written out.new) (report_of element.now)) }
+    ensures unflushed { K.flushed out.new ≡ K.flushed out.old }
     ensures count { SinkCount result (K.faults out.old) (K.faults out.new) }
 {
     let mut text = Vec::new(alloc);

@@ -29,7 +29,7 @@ pub enum Shown {
 /// Shows the frames of the input, and flushes what it wrote.
 pub fn show<S: Source, K: Sink>(alloc: Global, input: &mut S, out: &mut K) -> Result<Shown, Stop>
     ensures ends { ShowEnds LIMIT result (S.left input.old) (S.left input.new) (K.written out.old) (K.written out.new) }
-    ensures flushed { FlushedAt result (K.written out.new) (K.flushed out.new) }
+    ensures flushed { FlushedAt result (K.written out.new) (K.flushed out.old) (K.flushed out.new) }
     ensures source { SourceCount result (S.faults input.old) (S.faults input.new) }
     ensures sink { SinkCount result (K.faults out.old) (K.faults out.new) }
 {
@@ -46,6 +46,7 @@ pub fn show<S: Source, K: Sink>(alloc: Global, input: &mut S, out: &mut K) -> Re
 // Shows all frames up to the end of the input.
 fn show_all<S: Source, K: Sink>(alloc: Global, input: &mut S, out: &mut K) -> Result<Shown, Stop>
     ensures ends { ShowEnds LIMIT result (S.left input.old) (S.left input.new) (K.written out.old) (K.written out.new) }
+    ensures unflushed { K.flushed out.new ≡ K.flushed out.old }
     ensures source { SourceCount result (S.faults input.old) (S.faults input.new) }
     ensures sink { SinkCount result (K.faults out.old) (K.faults out.new) }
 {
@@ -87,6 +88,7 @@ fn show_piece<K: Sink>(
     requires room { fed < 2 ^ 62 }
     requires fed { length splitter.old ≤ fed }
     ensures ends { PieceEnds fed splitter.old splitter.new result (K.written out.old) (K.written out.new) }
+    ensures unflushed { K.flushed out.new ≡ K.flushed out.old }
     ensures few { IfOk result (λ refused. refused ≡ None → length splitter.new < 262144) }
     ensures count { SinkCount result (K.faults out.old) (K.faults out.new) }
 {
@@ -122,6 +124,7 @@ fn show_rest<K: Sink>(alloc: Global, fed: usize, rest: &[u8], out: &mut K) -> Re
     requires fed { length rest.now ≤ fed }
     requires partial { IsPartial rest.now }
     ensures ends { RestEnds (fed - length rest.now) rest.now result (K.written out.old) (K.written out.new) }
+    ensures unflushed { K.flushed out.new ≡ K.flushed out.old }
     ensures count { SinkCount result (K.faults out.old) (K.faults out.new) }
 {
     if rest.is_empty() {

@@ -29,6 +29,7 @@ impl From<Memory> for Stop {
 pub fn put<K: Sink>(out: &mut K, text: &[u8]) -> Result<(), Stop>
     ensures ok { OnOk result (Appends (K.written out.old) (K.written out.new) text.now) }
     ensures err { OnErr result (AppendsFront (K.written out.old) (K.written out.new) text.now) }
+    ensures unflushed { K.flushed out.new ≡ K.flushed out.old }
     ensures count { SinkCount result (K.faults out.old) (K.faults out.new) }
 {
     match write_all(out, text) {
@@ -41,7 +42,7 @@ pub fn put<K: Sink>(out: &mut K, text: &[u8]) -> Result<(), Stop>
 /// Flushes what was written.
 pub fn finish<K: Sink>(out: &mut K) -> Result<(), Stop>
     ensures same { Keeps (K.written out.old) (K.written out.new) }
-    ensures flushed { FlushedAt result (K.written out.new) (K.flushed out.new) }
+    ensures flushed { FlushedAt result (K.written out.new) (K.flushed out.old) (K.flushed out.new) }
     ensures count { SinkCount result (K.faults out.old) (K.faults out.new) }
 {
     match out.flush() {

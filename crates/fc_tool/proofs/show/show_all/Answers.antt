@@ -59,5 +59,6 @@ reads-preserved g c =
       limit = omega (arith, size, most);
       turns = omega arith;
       source = c.in-Ok.ensures.cause.ok ∙ c.reads.invariant.source;
+      unflushed = c.in-Ok-None.ensures.unflushed ∙ c.reads.invariant.unflushed;
       sink = c.in-Ok-None.ensures.count ∙ c.reads.invariant.sink;
     }

@@ -16,5 +16,6 @@ invariant-reads g l = record {
   limit : l.count ≤ 67108864;
   turns : l.counter ≤ l.count;
   source : g.S.Source.faults l.input ≡ g.S.Source.faults l.fn.input;
+  unflushed : g.K.Sink.flushed l.out ≡ g.K.Sink.flushed l.fn.out;
   sink : g.K.Sink.faults l.out ≡ g.K.Sink.faults l.fn.out;
 }
