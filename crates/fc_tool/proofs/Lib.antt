@@ -11,6 +11,7 @@ pub mod Looking
 pub mod OpenPeers
 pub mod Pieces
 pub mod Reaching
+pub mod Runs
 pub mod Serving
 pub mod Shows
 pub mod Splitting

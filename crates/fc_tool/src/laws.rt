@@ -1,5 +1,5 @@
 // Laws of frames, of what is written of them, and of how the input ends.
-ghost use Rattle.std.specs.Prelude.{◌≡◌, ◌≤◌, ◌⊎◌, List, ℕ, Option, Some, Ok, ◌++◌, length};
+ghost use Rattle.std.specs.Prelude.{◌≡◌, ◌≤◌, ◌⊎◌, List, ℕ, Option, Some, Ok, ◌∷◌, ◌++◌, length};
 ghost use Rattle.std.specs.List.{AllByRecursion};
 ghost use Rattle.fc_wire.specs.declared.header.Header.{Header};
 ghost use Rattle.fc_wire.specs.Frames.{Frames, IsFrame, IsPartial, frame_len, joined};
@@ -8,7 +8,7 @@ ghost use Rattle.fc_tool.specs.declared.show.Shown.{Shown};
 ghost use Rattle.fc_hub.specs.declared.event.HubEvent.{HubEvent};
 ghost use Rattle.fc_hub.specs.declared.event.HubEvent.TheVariants.{Bytes};
 ghost use Rattle.fc_tool.specs.ElementNode.{NodeState, first_node, frames, node_after, node_step, rest};
-ghost use Rattle.fc_tool.specs.Pieces.{AreAlike};
+ghost use Rattle.fc_tool.specs.Pieces.{AreAlike, MakeTheSame};
 ghost use Rattle.fc_tool.specs.Places.{AreDistinct};
 ghost use Rattle.fc_tool.specs.Faults.{IsHeartbeat, fault_of};
 ghost use Rattle.fc_tool.specs.Show.{AreHeartbeats, IsVerdict, ShowEnds, text_of};
@@ -42,10 +42,12 @@ pub fn input_ends_once()
 {}
 
 /// Bytes of a peer that come in two pieces make the same of a node as the whole, wherever they are cut: the same acts in
-/// the same order, and the same node afterwards.
+/// the same order, and the same node afterwards. So a run with such an event in two differs in the numbers of events alone.
 pub fn bytes_may_be_cut()
-    ensures { (n : NodeState) (peer : ℕ) (front back : List ℕ) → AreDistinct n.peers
+    ensures event { (n : NodeState) (peer : ℕ) (front back : List ℕ) → AreDistinct n.peers
         → AreAlike (node_step n (Bytes peer front)) (node_step (node_step n (Bytes peer front)).state (Bytes peer back)) (node_step n (Bytes peer (front ++ back))) }
+    ensures run { (id ce : ℕ) (before after : List HubEvent) (peer : ℕ) (front back : List ℕ)
+        → MakeTheSame (first_node id ce) (before ++ Bytes peer front ∷ Bytes peer back ∷ after) (before ++ Bytes peer (front ++ back) ∷ after) }
 {}
 
 /// Whatever events a node takes, each peer is open once at most.

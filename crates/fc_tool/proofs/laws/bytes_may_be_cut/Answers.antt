@@ -1,5 +1,9 @@
 use Rattle.fc_tool.proofs.Pieces.{bytes_alike}
+use Rattle.fc_tool.proofs.Runs.{run_alike}
 use Rattle.fc_tool.proofs.laws.bytes_may_be_cut.Goals as goal
 
-pub returns : goal.returns
-returns c = bytes_alike
+pub returns-clause-event : goal.returns-clause-event
+returns-clause-event c = bytes_alike
+
+pub returns-clause-run : goal.returns-clause-run
+returns-clause-run c = run_alike
