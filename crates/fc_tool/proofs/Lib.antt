@@ -9,6 +9,7 @@ pub mod Holding
 pub mod Judged
 pub mod Looking
 pub mod OpenPeers
+pub mod Outcomes
 pub mod Pieces
 pub mod Reaching
 pub mod Runs

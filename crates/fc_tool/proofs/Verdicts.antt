@@ -60,11 +60,11 @@ no_refusal bytes more hs ks rest last fault there le refused whole partial =
 
 -- ---- what was read of known bytes
 
-all_read : (bytes read : List ℕ) (left : Option (List ℕ)) → Consumes (Some bytes) left read → IsAtEnd left → bytes ≡ read
+pub all_read : (bytes read : List ℕ) (left : Option (List ℕ)) → Consumes (Some bytes) left read → IsAtEnd left → bytes ≡ read
 all_read bytes read None consumed end = absurd consumed
 all_read bytes read (Some xs) consumed end = consumed ∙ ap (λ l. read ++ l) end ∙ append-nil read
 
-front_read : (bytes read : List ℕ) (left : Option (List ℕ)) → Consumes (Some bytes) left read → (more : List ℕ) × (bytes ≡ read ++ more)
+pub front_read : (bytes read : List ℕ) (left : Option (List ℕ)) → Consumes (Some bytes) left read → (more : List ℕ) × (bytes ≡ read ++ more)
 front_read bytes read None consumed = absurd consumed
 front_read bytes read (Some xs) consumed = (xs, consumed)
 

@@ -1,5 +1,5 @@
 -- What `element` reads, does on its hub and writes, by how it ends. This profile's own.
-use Rattle.std.specs.Prelude.{◌≡◌, ◌⊎◌, ◌<◌, ◌≤◌, ◌+◌, ℕ, List, [], length, codes, Option, Result, Ok, Err}
+use Rattle.std.specs.Prelude.{◌≡◌, ◌⊎◌, ◌<◌, ◌≤◌, ◌+◌, ℕ, List, [], length, codes, Option, Result, Ok, Err, ⊤}
 use Rattle.std.specs.Io.KnownBytes.{Appends, Consumes, IsAtEnd}
 use Rattle.fc_base.specs.Causes.{Rose}
 use Rattle.fc_base.specs.Content.{AppendsFront}
@@ -41,6 +41,15 @@ not_built_text = codes "refused library notbuilt\n"
 -- the report on the element once these events were taken
 abbrev pub report_after : ℕ → ℕ → List HubEvent → List ℕ
 report_after id ce events = report_of (node_after (first_node id ce) events).element
+
+-- the endings in which nothing failed
+abbrev pub IsOutcome : ElementEnd → Type 0
+IsOutcome Done = ⊤
+IsOutcome Turns = ⊤
+IsOutcome Refused = ⊤
+IsOutcome TooLong = ⊤
+IsOutcome ReadFault = ⊥
+IsOutcome HubFault = ⊥
 
 -- what was seen of the input where `element` ends so
 abbrev pub look_of : ElementEnd → Look

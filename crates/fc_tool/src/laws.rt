@@ -3,10 +3,13 @@ ghost use Rattle.std.specs.Prelude.{◌≡◌, ◌≤◌, ◌⊎◌, List, ℕ, 
 ghost use Rattle.std.specs.List.{AllByRecursion};
 ghost use Rattle.fc_wire.specs.declared.header.Header.{Header};
 ghost use Rattle.fc_wire.specs.Frames.{Frames, IsFrame, IsPartial, frame_len, joined};
+ghost use Rattle.fc_tool.specs.declared.element.ElementEnd.{ElementEnd};
 ghost use Rattle.fc_tool.specs.declared.faults.Fault.{Fault};
 ghost use Rattle.fc_tool.specs.declared.show.Shown.{Shown};
+ghost use Rattle.fc_hub.specs.Hubs.{Held};
 ghost use Rattle.fc_hub.specs.declared.event.HubEvent.{HubEvent};
 ghost use Rattle.fc_hub.specs.declared.event.HubEvent.TheVariants.{Bytes};
+ghost use Rattle.fc_tool.specs.ElementRun.{ElementEnds, IsOutcome};
 ghost use Rattle.fc_tool.specs.ElementNode.{NodeState, first_node, frames, node_after, node_step, rest};
 ghost use Rattle.fc_tool.specs.Pieces.{AreAlike, MakeTheSame};
 ghost use Rattle.fc_tool.specs.Places.{AreDistinct};
@@ -39,6 +42,14 @@ pub fn text_is_unique()
 pub fn input_ends_once()
     ensures { (e f : Shown) (limit : ℕ) (bytes : List ℕ) (l k o p n m : Option (List ℕ)) → IsVerdict e → IsVerdict f
         → ShowEnds limit (Ok e) (Some bytes) l o n → ShowEnds limit (Ok f) (Some bytes) k p m → e ≡ f }
+{}
+
+/// A known input and a known hub have one ending of `element` of those in which nothing failed: the hub has no more
+/// events, so many were taken as are to be taken, or the input is not empty or too long.
+pub fn element_ends_once()
+    ensures { (e f : ElementEnd) (limit id ce turns : ℕ) (bytes : List ℕ) (held : Held) (l k : Option (List ℕ)) (new other : Option Held) (o p n m : Option (List ℕ))
+        → IsOutcome e → IsOutcome f → ElementEnds limit id ce turns (Ok e) (Some bytes) l (Some held) new o n
+        → ElementEnds limit id ce turns (Ok f) (Some bytes) k (Some held) other p m → e ≡ f }
 {}
 
 /// Bytes of a peer that come in two pieces make the same of a node as the whole, wherever they are cut: the same acts in

@@ -25,8 +25,8 @@ pub use command::run;
 pub use element::ElementEnd;
 pub use faults::{Fault, Reason};
 pub use laws::{
-    any_pieces, bytes_may_be_cut, frame_is_judged_once, input_ends_once, node_takes_the_frames,
-    peers_are_distinct, text_is_unique,
+    any_pieces, bytes_may_be_cut, element_ends_once, frame_is_judged_once, input_ends_once,
+    node_takes_the_frames, peers_are_distinct, text_is_unique,
 };
 pub use show::Shown;
 pub use splitter::Splitter;
