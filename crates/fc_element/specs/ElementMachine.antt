@@ -7,7 +7,7 @@ use Rattle.fc_assoc.specs.declared.heard.Heard.{Heard}
 use Rattle.fc_wire.specs.Flags.{FlagValues}
 use Rattle.fc_msg.specs.declared.message.Message.{Message}
 use Rattle.fc_msg.specs.declared.message.MsgBody.{MsgBody}
-use Rattle.fc_msg.specs.declared.message.MsgBody.TheVariants.{Setup, SetupResponse, Teardown, Heartbeat}
+use Rattle.fc_msg.specs.declared.message.MsgBody.TheVariants.{Setup, SetupResponse, Teardown, Config, ConfigResponse, Query, QueryResponse, Event, Heartbeat}
 use Rattle.fc_element.specs.declared.input.ElIn.{ElIn}
 use Rattle.fc_element.specs.declared.input.ElIn.TheVariants.{Opened, Arrived, Closed, Moment}
 use Rattle.fc_element.specs.declared.input.Out.{Out}
@@ -30,7 +30,7 @@ out peer m = record { peer = peer; message = m }
 
 -- the element asks whoever stands at the other end, by the ID of all control elements, to be associated
 abbrev pub setup_of : ℕ → Message
-setup_of id = record { source = id; dest = 4294967293; corr = 0; flags = asking 3; body = Setup }
+setup_of id = record { source = id; dest = 4294967293; corr = 0; flags = asking 3; body = Setup [] }
 
 -- a heartbeat to a control element
 abbrev pub heartbeat_of : ℕ → ℕ → Message
@@ -58,10 +58,15 @@ on_heartbeat s peer m =
 -- An accepted association to this element is entered or renewed; a heartbeat renews one, and a teardown ends one.
 -- Everything else is ignored, as is all that comes from a control element without an association.
 abbrev pub on_body : ElementState → ℕ → Message → MsgBody → Turn
-on_body s peer m Setup = turn s []
+on_body s peer m (Setup selects) = turn s []
 on_body s peer m (SetupResponse result) =
     if m.dest == s.id && result == 0 then turn (with_associations s (entered s.associations m.source peer s.clock)) [] else turn s []
 on_body s peer m (Teardown reason) = turn (with_associations s (remove s.associations m.source)) []
+on_body s peer m (Config selects) = turn s []
+on_body s peer m (ConfigResponse selects) = turn s []
+on_body s peer m (Query selects) = turn s []
+on_body s peer m (QueryResponse selects) = turn s []
+on_body s peer m (Event selects) = turn s []
 on_body s peer m Heartbeat = on_heartbeat s peer m
 
 -- what comes from no control element is ignored

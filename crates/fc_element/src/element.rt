@@ -60,7 +60,7 @@ impl Element {
         ensures err { OnErr result (self.new ≡ self.old) }
     {
         match input {
-            ElIn::Opened(peer) => one(self.alloc, peer, setup(self.id)),
+            ElIn::Opened(peer) => one(self.alloc, peer, setup(self.alloc, self.id)),
             ElIn::Arrived(peer, message) => self.arrived(peer, message),
             ElIn::Closed(_) => Ok(List::new(self.alloc)),
             ElIn::Moment(moment) => self.moment(moment),
@@ -74,21 +74,20 @@ impl Element {
         ensures err { OnErr result (self.new ≡ self.old) }
     {
         match CeId::of(message.source) {
-            Some(ce) => self.heard(ce, peer, message),
+            Some(ce) => self.heard(ce, peer, &message),
             None => Ok(List::new(self.alloc)),
         }
     }
 
     // A message came from a control element.
-    fn heard(&mut self, ce: CeId, peer: u32, message: Message) -> Result<List<Out>, Memory>
-        requires { ce ≡ message.source }
-        ensures outs { IfOk result (λ outs. outs ≡ (on_body self.old peer message message.body).outs) }
-        ensures ok { OnOk result (self.new ≡ (on_body self.old peer message message.body).state) }
+    fn heard(&mut self, ce: CeId, peer: u32, message: &Message) -> Result<List<Out>, Memory>
+        requires { ce ≡ message.now.source }
+        ensures outs { IfOk result (λ outs. outs ≡ (on_body self.old peer message.now message.now.body).outs) }
+        ensures ok { OnOk result (self.new ≡ (on_body self.old peer message.now message.now.body).state) }
         ensures err { OnErr result (self.new ≡ self.old) }
     {
         let none = List::new(self.alloc);
         match message.body {
-            MsgBody::Setup => Ok(none),
             MsgBody::SetupResponse(result) => {
                 if message.dest == self.id.get() && result == 0 {
                     self.associations.setup_answer(ce, peer, self.clock)?;
@@ -103,13 +102,19 @@ impl Element {
                 let is_asked = self.associations.peer_of(ce).is_some()
                     && message.flags.ack == ALWAYS;
                 let outs = if is_asked {
-                    one(self.alloc, peer, answer(&message))?
+                    one(self.alloc, peer, answer(message))?
                 } else {
                     none
                 };
                 self.associations.heard(ce, peer, self.clock);
                 Ok(outs)
             }
+            MsgBody::Setup(_)
+            | MsgBody::Config(_)
+            | MsgBody::ConfigResponse(_)
+            | MsgBody::Query(_)
+            | MsgBody::QueryResponse(_)
+            | MsgBody::Event(_) => Ok(none),
         }
     }
 

@@ -2,7 +2,7 @@
 use fc_msg::Message;
 
 /// What comes to an element. A peer is the number of a byte carrier.
-#[derive(Clone, Copy, Debug, PartialEq, Eq)]
+#[derive(Debug, PartialEq, Eq, Drop)]
 pub enum ElIn {
     /// A peer was opened.
     Opened(u32),
@@ -15,7 +15,7 @@ pub enum ElIn {
 }
 
 /// A message to a peer.
-#[derive(Clone, Copy, Debug, PartialEq, Eq)]
+#[derive(Debug, PartialEq, Eq, Drop)]
 pub struct Out {
     pub peer: u32,
     pub message: Message,

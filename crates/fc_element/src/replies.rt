@@ -31,7 +31,7 @@ fn asking(ack: u8) -> Flags
 }
 
 /// The element asks to be associated.
-pub fn setup(id: FeId) -> Message
+pub fn setup(alloc: Global, id: FeId) -> Message
     ensures { result ≡ setup_of id }
 {
     Message {
@@ -39,7 +39,7 @@ pub fn setup(id: FeId) -> Message
         dest: ALL_CES,
         corr: 0,
         flags: asking(ALWAYS),
-        body: MsgBody::Setup,
+        body: MsgBody::Setup(List::new(alloc)),
     }
 }
 

@@ -1,6 +1,6 @@
+pub mod Bodies
 pub mod Canonical
-pub mod Read
-pub mod Sound
-pub mod Typed
-pub mod Unique
-pub mod Whole
+pub mod Numbers
+pub mod Reading
+pub mod Selects
+pub mod Writing

@@ -1,5 +1,7 @@
 -- What an answer of decoding is to a message, and to a refusal. This profile's own.
 use Rattle.std.specs.Prelude.{◌≡◌, ⊤, Option, Some, None, Result, Ok, Err}
+use Rattle.fc_path.specs.declared.fault.PathFault.{PathFault}
+use Rattle.fc_msg.specs.Faults.{told_of}
 use Rattle.fc_msg.specs.declared.message.Message.{Message}
 use Rattle.fc_msg.specs.declared.fault.MsgFault.{MsgFault}
 use Rattle.fc_msg.specs.declared.fault.MsgFault.TheVariants.{At, Memory}
@@ -15,3 +17,11 @@ Gives m (Err Memory) = ⊤
 abbrev pub Refuses : Option Refusal → MsgFault → Type 0
 Refuses broken (At refusal) = broken ≡ Some refusal
 Refuses broken Memory = ⊤
+
+-- the fault of a message by that of its body
+abbrev pub told_or_memory : Option Refusal → MsgFault
+told_or_memory (Some told) = At told
+told_or_memory None = Memory
+
+abbrev pub fault_from : PathFault → MsgFault
+fault_from fault = told_or_memory (told_of fault)

@@ -1,11 +1,14 @@
 -- The first rule that bytes break, with its place: RFC 5810, sections 6 and 7, in the order of this profile. The rules go
 -- over the header, then the type, and then the list of all TLVs and ends of containers in reading order.
-use Rattle.std.specs.Prelude.{◌≡◌, ℕ, ◌*◌, ◌/◌, ◌==◌, ◌&&◌, ◌||◌, not, nat_lt, Bool, true, if◌then◌else◌, List, [], ◌∷◌, length, drop, slice_index, codes, Option, Some, None}
+use Rattle.std.specs.Prelude.{ℕ, ◌*◌, ◌/◌, ◌==◌, ◌||◌, not, nat_lt, Bool, if◌then◌else◌, List, [], ◌∷◌, length, drop, slice_index, codes, Option, Some, None, Result, Ok, Err}
 use Rattle.fc_wire.specs.Bytes.{u16_at}
-use Rattle.fc_wire.specs.Tiling.{Tiling}
-use Rattle.fc_wire.specs.Tlvs.{TlvItem, tlvs}
+use Rattle.fc_wire.specs.Tlvs.{tlvs}
 use Rattle.fc_wire.specs.declared.header.WireFault.{WireFault}
 use Rattle.fc_wire.specs.declared.header.WireFault.TheVariants as wire
+use Rattle.fc_path.specs.declared.fault.PathFault.{PathFault}
+use Rattle.fc_path.specs.declared.fault.PathFault.TheVariants as path
+use Rattle.fc_msg.specs.Bodies.{body_at}
+use Rattle.fc_msg.specs.declared.message.MsgBody.{MsgBody}
 use Rattle.fc_msg.specs.declared.fault.Refusal.{Refusal}
 use Rattle.fc_msg.specs.declared.fault.Reason.{Reason}
 use Rattle.fc_msg.specs.declared.fault.Reason.TheVariants.{Truncated, Version, ShortLength, Trailing, NotBuilt, UnknownType, TlvShort, TlvPast, UnknownTlv, TwoBodies, WrongBody, CountPast, KeyFlag, Deep}
@@ -60,49 +63,45 @@ header_rules bytes =
     ∷ rule (nat_lt (4 * u16_at bytes 2) (length bytes)) (4 * u16_at bytes 2) Trailing
     ∷ []
 
--- which types of messages are taken: AssociationSetup and Heartbeat without a body, and those with one number
-abbrev pub is_taken : ℕ → ℕ → Bool
-is_taken kind words = (kind == 1 && words == 6) || (kind == 15 && words == 6) || kind == 17 || kind == 2
+-- the types of messages that are in the table
+abbrev pub is_type : ℕ → Bool
+is_type kind =
+    kind == 1 || kind == 2 || kind == 3 || kind == 4 || kind == 5 || kind == 15 || kind == 17 || kind == 19 || kind == 20
 
--- the types of TLVs that are in a table outside an LFBselect
-abbrev pub is_known : ℕ → Bool
-is_known kind =
-    kind == 1 || kind == 16 || kind == 17 || kind == 272 || kind == 273 || kind == 274 || kind == 275 || kind == 276
-    || kind == 277 || kind == 278 || kind == 4096
+-- the rules of the type: PacketRedirect is not taken yet
+abbrev pub type_rules : ℕ → List Rule
+type_rules kind = rule (kind == 6) 1 NotBuilt ∷ rule (not (is_type kind)) 1 UnknownType ∷ []
 
--- the rules of what stands behind the one TLV that may stand there
-abbrev pub rules_after : List TlvItem → Option WireFault → List Rule
-rules_after [] None = []
-rules_after [] (Some fault) = record { is_broken = true; told = refusal_of fault } ∷ []
-rules_after (t ∷ ts) fault = rule (not (is_known t.kind)) t.place UnknownTlv ∷ rule true t.place Trailing ∷ []
+-- what is told of a fault of a body; want of memory is none
+abbrev pub told_of : PathFault → Option Refusal
+told_of (path.Wire fault) = Some (refusal_of fault)
+told_of (path.UnknownTlv place) = Some (refusal place UnknownTlv)
+told_of (path.CountPast place) = Some (refusal place CountPast)
+told_of (path.KeyFlag place) = Some (refusal place KeyFlag)
+told_of (path.TwoBodies place) = Some (refusal place TwoBodies)
+told_of (path.Deep place) = Some (refusal place Deep)
+told_of (path.WrongBody place) = Some (refusal place WrongBody)
+told_of (path.Trailing place) = Some (refusal place Trailing)
+told_of path.Memory = None
 
--- the rules of a body that is one TLV of a type with a value of four bytes, up to the end of the message
-abbrev pub number_rules : ℕ → ℕ → List TlvItem → Option WireFault → List Rule
-number_rules kind end [] None = rule true end WrongBody ∷ []
-number_rules kind end [] (Some fault) = record { is_broken = true; told = refusal_of fault } ∷ []
-number_rules kind end (t ∷ ts) fault =
-    rule (not (is_known t.kind)) t.place UnknownTlv ∷ rule (not (t.kind == kind)) t.place WrongBody
-    ∷ rule (not (length t.body == 4)) t.place WrongBody ∷ rules_after ts fault
-
-abbrev pub rules_of_tiling : ℕ → ℕ → Tiling TlvItem → List Rule
-rules_of_tiling kind end t = number_rules kind end t.items t.fault
-
--- the rules of the body of a message of a type
-abbrev pub body_rules : ℕ → List ℕ → List Rule
-body_rules kind bytes =
-    if kind == 17 then rules_of_tiling 16 (length bytes) (tlvs 24 (drop 24 bytes))
-    else (if kind == 2 then rules_of_tiling 17 (length bytes) (tlvs 24 (drop 24 bytes)) else [])
+abbrev pub fault_in : {X : Type 0} → Result X PathFault → Option Refusal
+fault_in (Ok x) = None
+fault_in (Err fault) = told_of fault
 
 -- one rule after the other
 abbrev pub first_of : Option Refusal → Option Refusal → Option Refusal
 first_of None later = later
 first_of (Some told) later = Some told
 
--- the first rule of the type and of the body that the bytes of a message of a type and so many words break
-abbrev pub type_fault : ℕ → ℕ → List ℕ → Option Refusal
-type_fault kind words bytes =
-    first_of (first_broken (rule (not (is_taken kind words)) 1 NotBuilt ∷ [])) (first_broken (body_rules kind bytes))
+-- the body behind the header
+abbrev pub body_in : List ℕ → Result MsgBody PathFault
+body_in bytes =
+    body_at (slice_index bytes 1) (length bytes) (tlvs 24 (drop 24 bytes)).items (tlvs 24 (drop 24 bytes)).fault
+
+-- the first rule of the header and of the type that the bytes break
+abbrev pub head_fault : List ℕ → Option Refusal
+head_fault bytes = first_of (first_broken (header_rules bytes)) (first_broken (type_rules (slice_index bytes 1)))
 
 -- the first rule that the bytes break
 unfoldable pub fault_of : List ℕ → Option Refusal
-fault_of bytes = first_of (first_broken (header_rules bytes)) (type_fault (slice_index bytes 1) (u16_at bytes 2) bytes)
+fault_of bytes = first_of (head_fault bytes) (fault_in (body_in bytes))

@@ -1,3 +1,4 @@
+pub mod Bodies
 pub mod Decoding
 pub mod Faults
 pub mod Messages

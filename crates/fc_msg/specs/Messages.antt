@@ -1,20 +1,29 @@
 -- Which bytes spell which message: RFC 5810, sections 6.1 and 7.
-use Rattle.std.specs.Prelude.{◌≡◌, ◌<◌, ◌+◌, ◌*◌, ◌/◌, ◌^◌, ℕ, List, [], ◌++◌, length, take, drop, ⊤}
+use Rattle.std.specs.Prelude.{◌≡◌, ◌<◌, ◌+◌, ◌*◌, ◌/◌, ◌^◌, ◌&&◌, Bool, nat_lt, ℕ, List, [], ◌++◌, length, map, take, drop, ⊤}
+use Rattle.std.specs.List.{AllByRecursion}
 use Rattle.fc_wire.specs.Bytes.{u32_at, u32_bytes}
 use Rattle.fc_wire.specs.Flags.{FlagsFit}
 use Rattle.fc_wire.specs.Header.{IsHeader, header_bytes}
 use Rattle.fc_wire.specs.Tlvs.{IsTlv}
-use Rattle.fc_wire.specs.Writing.{tlv_bytes}
 use Rattle.fc_wire.specs.declared.header.Header.{Header}
+use Rattle.fc_path.specs.Canon.{Written, joined, plain, select_written, wrapped}
+use Rattle.fc_path.specs.Grammar.{Each, IsSelect}
+use Rattle.fc_path.specs.Proper.{ProperSelect}
+use Rattle.fc_path.specs.declared.oper.Select.{Select}
 use Rattle.fc_msg.specs.declared.message.Message.{Message}
 use Rattle.fc_msg.specs.declared.message.MsgBody.{MsgBody}
-use Rattle.fc_msg.specs.declared.message.MsgBody.TheVariants.{Setup, SetupResponse, Teardown, Heartbeat}
+use Rattle.fc_msg.specs.declared.message.MsgBody.TheVariants.{Setup, SetupResponse, Teardown, Config, ConfigResponse, Query, QueryResponse, Event, Heartbeat}
 
 -- the type of a message
 abbrev pub kind_of : MsgBody → ℕ
-kind_of Setup = 1
+kind_of (Setup selects) = 1
 kind_of (SetupResponse result) = 17
 kind_of (Teardown reason) = 2
+kind_of (Config selects) = 3
+kind_of (ConfigResponse selects) = 19
+kind_of (Query selects) = 4
+kind_of (QueryResponse selects) = 20
+kind_of (Event selects) = 5
 kind_of Heartbeat = 15
 
 -- the header of a message of so many words
@@ -30,11 +39,20 @@ pub record IsNumber (kind number : ℕ) (bytes : List ℕ) : Type 0 where
   pub four : length value ≡ 4
   pub same : number ≡ u32_at value 0
 
+-- the bytes are LFBselects in a message of a type, one after the other, of which there is at least one
+abbrev pub AreSelects : ℕ → List Select → List ℕ → Type 0
+AreSelects kind selects bytes = (0 < length selects) × Each (IsSelect kind) selects bytes
+
 -- the bytes behind the header spell the body
 abbrev pub SpellsBody : MsgBody → List ℕ → Type 0
-SpellsBody Setup bytes = bytes ≡ []
+SpellsBody (Setup selects) bytes = Each (IsSelect 1) selects bytes
 SpellsBody (SetupResponse result) bytes = IsNumber 16 result bytes
 SpellsBody (Teardown reason) bytes = IsNumber 17 reason bytes
+SpellsBody (Config selects) bytes = AreSelects 3 selects bytes
+SpellsBody (ConfigResponse selects) bytes = AreSelects 19 selects bytes
+SpellsBody (Query selects) bytes = AreSelects 4 selects bytes
+SpellsBody (QueryResponse selects) bytes = AreSelects 20 selects bytes
+SpellsBody (Event selects) bytes = AreSelects 5 selects bytes
 SpellsBody Heartbeat bytes = bytes ≡ []
 
 -- the bytes spell the message; the reserved bits of the header, and padding, are free
@@ -44,27 +62,51 @@ pub record Spells (m : Message) (bytes : List ℕ) : Type 0 where
   pub size : length bytes ≡ 4 * words
   pub body : SpellsBody m.body (drop 24 bytes)
 
--- the numbers of the message are within the ranges of their fields
-abbrev pub BodyFits : MsgBody → Type 0
-BodyFits Setup = ⊤
-BodyFits (SetupResponse result) = result < 2 ^ 32
-BodyFits (Teardown reason) = reason < 2 ^ 32
-BodyFits Heartbeat = ⊤
+-- the numbers of the body are within the ranges of their fields, and its LFBselects are ones that the grammar has in
+-- a message of the type
+abbrev pub ProperSelects : ℕ → List Select → Type 0
+ProperSelects kind selects = (0 < length selects) × AllByRecursion (ProperSelect kind) selects
+
+abbrev pub ProperMsgBody : MsgBody → Type 0
+ProperMsgBody (Setup selects) = AllByRecursion (ProperSelect 1) selects
+ProperMsgBody (SetupResponse result) = result < 2 ^ 32
+ProperMsgBody (Teardown reason) = reason < 2 ^ 32
+ProperMsgBody (Config selects) = ProperSelects 3 selects
+ProperMsgBody (ConfigResponse selects) = ProperSelects 19 selects
+ProperMsgBody (Query selects) = ProperSelects 4 selects
+ProperMsgBody (QueryResponse selects) = ProperSelects 20 selects
+ProperMsgBody (Event selects) = ProperSelects 5 selects
+ProperMsgBody Heartbeat = ⊤
 
 pub record IsProper (m : Message) : Type 0 where
   pub source : m.source < 2 ^ 32
   pub dest : m.dest < 2 ^ 32
   pub correlator : m.corr < 2 ^ 64
   pub flags : FlagsFit m.flags
-  pub body : BodyFits m.body
+  pub body : ProperMsgBody m.body
 
--- the canonical bytes of a body: padding is zero
-abbrev pub body_bytes : MsgBody → List ℕ
-body_bytes Setup = []
-body_bytes (SetupResponse result) = tlv_bytes 16 (u32_bytes result)
-body_bytes (Teardown reason) = tlv_bytes 17 (u32_bytes reason)
-body_bytes Heartbeat = []
+-- the canonical bytes of a body, whose padding is zero, and whether each length in it fits its field
+abbrev pub selects_written : List Select → Written
+selects_written selects = joined (map select_written selects)
+
+abbrev pub body_written : MsgBody → Written
+body_written (Setup selects) = selects_written selects
+body_written (SetupResponse result) = wrapped 16 (plain (u32_bytes result))
+body_written (Teardown reason) = wrapped 17 (plain (u32_bytes reason))
+body_written (Config selects) = selects_written selects
+body_written (ConfigResponse selects) = selects_written selects
+body_written (Query selects) = selects_written selects
+body_written (QueryResponse selects) = selects_written selects
+body_written (Event selects) = selects_written selects
+body_written Heartbeat = plain []
 
 -- the canonical bytes of a message: reserved bits and padding are zero
+abbrev pub with_body : Message → List ℕ → List ℕ
+with_body m body = header_bytes (header_of m (6 + length body / 4)) ++ body
+
 unfoldable pub canonical : Message → List ℕ
-canonical m = header_bytes (header_of m (6 + length (body_bytes m.body) / 4)) ++ body_bytes m.body
+canonical m = with_body m (body_written m.body).text
+
+-- each length in the message fits its field, and it has at most 65,535 words, six of which are the header's
+unfoldable pub message_fits : Message → Bool
+message_fits m = nat_lt (length (body_written m.body).text) 262117 && (body_written m.body).fits

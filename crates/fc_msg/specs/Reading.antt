@@ -1,14 +1,14 @@
 -- The message in bytes as a function, which is the one that they spell: RFC 5810, section 7.
-use Rattle.std.specs.Prelude.{◌≡◌, ℕ, ◌/◌, ◌%◌, ◌^◌, ◌==◌, if◌then◌else◌, List, slice_index, ⊤, Option, Some, None, Result, Ok, Err}
+use Rattle.std.specs.Prelude.{◌≡◌, ℕ, ◌/◌, ◌%◌, ◌^◌, ◌==◌, List, ⊤, Option, Some, None, Result, Ok, Err}
 use Rattle.fc_wire.specs.Bytes.{u32_at, u64_at}
 use Rattle.fc_wire.specs.Flags.{FlagValues}
+use Rattle.fc_path.specs.declared.fault.PathFault.{PathFault}
 use Rattle.fc_msg.specs.declared.fault.MsgFault.{MsgFault}
 use Rattle.fc_msg.specs.declared.fault.MsgFault.TheVariants.{At, Memory}
 use Rattle.fc_msg.specs.declared.fault.Refusal.{Refusal}
 use Rattle.fc_msg.specs.declared.message.Message.{Message}
 use Rattle.fc_msg.specs.declared.message.MsgBody.{MsgBody}
-use Rattle.fc_msg.specs.declared.message.MsgBody.TheVariants.{Setup, SetupResponse, Teardown, Heartbeat}
-use Rattle.fc_msg.specs.Faults.{fault_of}
+use Rattle.fc_msg.specs.Faults.{body_in, head_fault}
 
 -- the flags in a word
 abbrev pub flags_in : ℕ → FlagValues
@@ -20,29 +20,24 @@ flags_in word = record {
   tp = word / 2 ^ 19 % 4;
 }
 
--- the body of a type, which may have a number in it
-abbrev pub body_in : ℕ → ℕ → MsgBody
-body_in kind number =
-    if kind == 17 then SetupResponse number
-    else (if kind == 2 then Teardown number else (if kind == 1 then Setup else Heartbeat))
-
--- the fields of a message at their places
-abbrev pub fields_in : List ℕ → Message
-fields_in bytes = record {
+-- a message with this body, whose other fields stand at their places
+abbrev pub fields_in : List ℕ → MsgBody → Message
+fields_in bytes body = record {
   source = u32_at bytes 4;
   dest = u32_at bytes 8;
   corr = u64_at bytes 12;
   flags = flags_in (u32_at bytes 20);
-  body = body_in (slice_index bytes 1) (u32_at bytes 28);
+  body = body;
 }
 
-abbrev pub unless_broken : Option Refusal → Message → Option Message
-unless_broken (Some told) m = None
-unless_broken None m = Some m
+abbrev pub unless_broken : Option Refusal → Result MsgBody PathFault → List ℕ → Option Message
+unless_broken (Some told) read bytes = None
+unless_broken None (Ok body) bytes = Some (fields_in bytes body)
+unless_broken None (Err fault) bytes = None
 
 -- the message in bytes that break no rule
 unfoldable pub message_in : List ℕ → Option Message
-message_in bytes = unless_broken (fault_of bytes) (fields_in bytes)
+message_in bytes = unless_broken (head_fault bytes) (body_in bytes) bytes
 
 -- an answer of decoding tells what is in the bytes, unless there was no memory
 abbrev pub Tells : Option Message → Result Message MsgFault → Type 0

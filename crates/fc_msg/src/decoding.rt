@@ -1,50 +1,50 @@
 // Bytes to messages.
-ghost use Rattle.std.specs.Prelude.{◌≡◌, ◌*◌, ◌≤◌, length, take, drop, slice_index, IfOk, IfErr, Some, None};
+ghost use Rattle.std.specs.Prelude.{◌≡◌, ◌*◌, ◌≤◌, length, take, slice_index, IfOk, IfErr, Some, None};
 ghost use Rattle.fc_wire.specs.Bytes.{u16_at};
 ghost use Rattle.fc_wire.specs.Header.{IsHeader};
 ghost use Rattle.fc_wire.specs.declared.header.Header.{Header};
 ghost use Rattle.fc_msg.specs.declared.message.Message.{Message};
 ghost use Rattle.fc_msg.specs.Decoding.{Gives, Refuses};
-ghost use Rattle.fc_msg.specs.Faults.{first_broken, header_rules, type_fault, fault_of};
-ghost use Rattle.fc_msg.specs.Messages.{Spells, SpellsBody, kind_of};
+ghost use Rattle.fc_msg.specs.Faults.{first_broken, first_of, header_rules, type_rules, head_fault, fault_of};
+ghost use Rattle.fc_msg.specs.Messages.{IsProper, Spells};
 ghost use Rattle.fc_msg.specs.Reading.{Tells, message_in};
 
+use crate::body::read_body;
 use crate::fault::{MsgFault, Reason, Refusal};
 use crate::message::{
-    AS_REASON, AS_RESULT, HEARTBEAT, Message, MsgBody, SETUP, SETUP_RESPONSE, TEARDOWN,
+    CONFIG, CONFIG_RESPONSE, EVENT, HEARTBEAT, Message, QUERY, QUERY_RESPONSE, REDIRECT, SETUP,
+    SETUP_RESPONSE, TEARDOWN,
 };
-use crate::value::number;
-use fc_wire::Header;
+use fc_path::are_bytes;
+use fc_wire::{Header, Tlvs};
 use std::alloc::Global;
 
 /// The message that the bytes spell, or the first rule that they break, with its place.
-pub fn decode(_alloc: Global, bytes: &[u8]) -> Result<Message, MsgFault>
+pub fn decode(alloc: Global, bytes: &[u8]) -> Result<Message, MsgFault>
     ensures found { IfOk result (λ m. Spells m bytes.now) }
+    ensures proper { IfOk result (λ m. IsProper m) }
     ensures only { (m : Message) → Spells m bytes.now → Gives m result }
     ensures exact { Tells (message_in bytes.now) result }
     ensures accepted { IfOk result (λ _. fault_of bytes.now ≡ None) }
     ensures refused { IfErr result (λ fault. Refuses (fault_of bytes.now) fault) }
 {
-    match spelled(bytes) {
-        Ok(message) => Ok(message),
-        Err(refusal) => Err(MsgFault::At(refusal)),
-    }
+    are_bytes(bytes);
+    message_of(alloc, bytes)
 }
 
-// The message that the bytes spell, or the first rule that they break.
-#[tactic(auto, unfolding(crate::specs::Faults::fault_of))]
-fn spelled(bytes: &[u8]) -> Result<Message, Refusal>
-    ensures found { IfOk result (λ m. Spells m bytes.now) }
-    ensures accepted { IfOk result (λ _. fault_of bytes.now ≡ None) }
-    ensures refused { IfErr result (λ refusal. fault_of bytes.now ≡ Some refusal) }
+// The message in bytes.
+fn message_of(alloc: Global, bytes: &[u8]) -> Result<Message, MsgFault>
+    ensures found { IfOk result (λ m. message_in bytes.now ≡ Some m) }
+    ensures refused { IfErr result (λ fault. Refuses (fault_of bytes.now) fault) }
 {
-    let header = match framed(bytes) {
+    let header = match headed(bytes) {
         Ok(header) => header,
-        Err(refusal) => return Err(refusal),
+        Err(refusal) => return Err(MsgFault::At(refusal)),
     };
-    let body = match body(header.kind, header.words, bytes) {
+    let tlvs = Tlvs::over(&bytes[24..], 24);
+    let body = match read_body(alloc, header.kind, tlvs, bytes.len()) {
         Ok(body) => body,
-        Err(refusal) => return Err(refusal),
+        Err(fault) => return Err(MsgFault::from(fault)),
     };
     Ok(Message {
         source: header.source,
@@ -53,6 +53,25 @@ fn spelled(bytes: &[u8]) -> Result<Message, Refusal>
         flags: header.flags,
         body,
     })
+}
+
+// The header of bytes that are as many as it says, of a type that is taken.
+fn headed(bytes: &[u8]) -> Result<Header, Refusal>
+    ensures header { IfOk result (λ h. IsHeader h (take 24 bytes.now)) }
+    ensures kind { IfOk result (λ h. h.kind ≡ slice_index bytes.now 1) }
+    ensures size { IfOk result (λ h. length bytes.now ≡ 4 * h.words) }
+    ensures some { IfOk result (λ h. 6 ≤ h.words) }
+    ensures accepted { IfOk result (λ _. head_fault bytes.now ≡ None) }
+    ensures refused { IfErr result (λ refusal. head_fault bytes.now ≡ Some refusal) }
+{
+    let header = match framed(bytes) {
+        Ok(header) => header,
+        Err(refusal) => return Err(refusal),
+    };
+    match typed(header.kind) {
+        Ok(()) => Ok(header),
+        Err(refusal) => Err(refusal),
+    }
 }
 
 // The header of bytes that are as many as it says.
@@ -82,26 +101,22 @@ fn framed(bytes: &[u8]) -> Result<Header, Refusal>
     Ok(header)
 }
 
-// The body of a message of a type and so many words, if messages of that type and length are taken.
-fn body(kind: u8, words: u16, bytes: &[u8]) -> Result<MsgBody, Refusal>
-    requires header { 6 ≤ words }
-    requires size { length bytes.now ≡ 4 * words }
-    ensures spelled { IfOk result (λ body. SpellsBody body (drop 24 bytes.now)) }
-    ensures kind { IfOk result (λ body. kind_of body ≡ kind) }
-    ensures accepted { IfOk result (λ _. type_fault kind words bytes.now ≡ None) }
-    ensures refused { IfErr result (λ refusal. type_fault kind words bytes.now ≡ Some refusal) }
+// Whether messages of a type are taken.
+fn typed(kind: u8) -> Result<(), Refusal>
+    ensures accepted { IfOk result (λ _. first_broken (type_rules kind) ≡ None) }
+    ensures refused { IfErr result (λ refusal. first_broken (type_rules kind) ≡ Some refusal) }
 {
     match kind {
-        SETUP_RESPONSE => match number(AS_RESULT, &bytes[24..], 24) {
-            Ok(result) => Ok(MsgBody::SetupResponse(result)),
-            Err(refusal) => Err(refusal),
-        },
-        TEARDOWN => match number(AS_REASON, &bytes[24..], 24) {
-            Ok(reason) => Ok(MsgBody::Teardown(reason)),
-            Err(refusal) => Err(refusal),
-        },
-        SETUP if words == 6 => Ok(MsgBody::Setup),
-        HEARTBEAT if words == 6 => Ok(MsgBody::Heartbeat),
-        _ => Err(Refusal::at(1, Reason::NotBuilt)),
+        SETUP
+        | TEARDOWN
+        | CONFIG
+        | QUERY
+        | EVENT
+        | HEARTBEAT
+        | SETUP_RESPONSE
+        | CONFIG_RESPONSE
+        | QUERY_RESPONSE => Ok(()),
+        REDIRECT => Err(Refusal::at(1, Reason::NotBuilt)),
+        _ => Err(Refusal::at(1, Reason::UnknownType)),
     }
 }

@@ -1,48 +1,83 @@
 // Messages to bytes.
-ghost use Rattle.std.specs.Prelude.{◌≡◌, ◌≤◌, ◌+◌, ◌/◌, ◌++◌, length, OnOk, OnErr, IsErrOf};
-ghost use Rattle.fc_base.specs.declared.faults.WriteFault.TheVariants.{Memory};
+ghost use Rattle.std.specs.Prelude.{◌≡◌, ◌≤◌, ◌<◌, ◌++◌, length, true, false, map, OnOk, OnErr};
+ghost use Rattle.std.specs.Result.{IsErrOf};
+ghost use Rattle.fc_base.specs.declared.faults.WriteFault.TheVariants.{TooLong};
 ghost use Rattle.fc_wire.specs.Bytes.{u32_bytes};
-ghost use Rattle.fc_wire.specs.Header.{header_bytes};
-ghost use Rattle.fc_wire.specs.Writing.{tlv_bytes};
-ghost use Rattle.fc_msg.specs.Messages.{canonical, header_of};
+ghost use Rattle.fc_path.specs.Canon.{Pushed, plain, wrapped};
+ghost use Rattle.fc_msg.specs.Messages.{body_written, canonical, message_fits, selects_written, with_body};
 
 use crate::message::{AS_REASON, AS_RESULT, Message, MsgBody};
 use fc_base::WriteFault;
-use fc_wire::Header;
+use fc_path::Select;
+use fc_wire::{Header, TlvWriter};
 
-/// Appends the canonical bytes of the message, whose reserved bits and padding are zero. After an `Err`, which can be
-/// want of memory alone, nothing has changed.
-#[tactic(auto, unfolding(crate::specs::Messages::canonical))]
+// The most bytes of a body: 65,535 words less those of the header.
+const BODY: usize = 262116;
+
+/// Appends the canonical bytes of the message, whose reserved bits and padding are zero. Refuses `TooLong` exactly where
+/// the length of a TLV passes 65,535 bytes or the message passes 65,535 words. After an `Err` nothing has changed.
 pub fn encode(message: &Message, into: &mut Vec<u8>) -> Result<(), WriteFault>
-    ensures ok { OnOk result (into.new.items ≡ into.old.items ++ canonical message.now) }
+    ensures ok { OnOk result ((message_fits message.now ≡ true) × (into.new.items ≡ into.old.items ++ canonical message.now)) }
+    ensures long { IsErrOf result TooLong → message_fits message.now ≡ false }
     ensures err { OnErr result (into.new.items ≡ into.old.items) }
-    ensures memory { OnErr result (IsErrOf result Memory) }
 {
-    match message.body {
-        MsgBody::Setup | MsgBody::Heartbeat => append(message, &[], into),
-        MsgBody::SetupResponse(result) => append(message, &number_tlv(AS_RESULT, result), into),
-        MsgBody::Teardown(reason) => append(message, &number_tlv(AS_REASON, reason), into),
+    let mut writer = TlvWriter::new(*into.allocator());
+    match write_body(&mut writer, &message.body) {
+        Ok(()) => {}
+        Err(fault) => return Err(fault),
+    }
+    let body = writer.finish();
+    if body.len() > BODY {
+        return Err(WriteFault::TooLong);
+    }
+    append(message, body.as_slice(), into)
+}
+
+// A TLV with a number in it.
+fn write_number(to: &mut TlvWriter, kind: u16, number: u32) -> Result<(), WriteFault>
+    ensures { Pushed result to.old to.new (wrapped kind (plain (u32_bytes number))) }
+{
+    let begun = to.begin(kind)?;
+    to.put(&number.to_be_bytes())?;
+    to.end(begun)
+}
+
+fn write_selects(to: &mut TlvWriter, selects: &[Select]) -> Result<(), WriteFault>
+    ensures { Pushed result to.old to.new (selects_written selects.now) }
+{
+    for select in selects {
+        match select.write(to) {
+            Ok(()) => {}
+            Err(fault) => return Err(fault),
+        }
+    }
+    Ok(())
+}
+
+// The canonical bytes of a body.
+fn write_body(to: &mut TlvWriter, body: &MsgBody) -> Result<(), WriteFault>
+    ensures { Pushed result to.old to.new (body_written body.now) }
+{
+    match body {
+        MsgBody::Setup(selects) => write_selects(to, selects.as_slice()),
+        MsgBody::SetupResponse(result) => write_number(to, AS_RESULT, *result),
+        MsgBody::Teardown(reason) => write_number(to, AS_REASON, *reason),
+        MsgBody::Config(selects) => write_selects(to, selects.as_slice()),
+        MsgBody::ConfigResponse(selects) => write_selects(to, selects.as_slice()),
+        MsgBody::Query(selects) => write_selects(to, selects.as_slice()),
+        MsgBody::QueryResponse(selects) => write_selects(to, selects.as_slice()),
+        MsgBody::Event(selects) => write_selects(to, selects.as_slice()),
+        MsgBody::Heartbeat => Ok(()),
     }
 }
 
-// A TLV of this type with a number in it.
-#[tactic(auto, unfolding(fc_wire::specs::Writing::tlv_bytes, fc_wire::specs::Writing::padding))]
-fn number_tlv(kind: u16, number: u32) -> [u8; 8]
-    ensures { result ≡ tlv_bytes kind (u32_bytes number) }
-{
-    let kind = kind.to_be_bytes();
-    let number = number.to_be_bytes();
-    [
-        kind[0], kind[1], 0, 8, number[0], number[1], number[2], number[3],
-    ]
-}
-
-// Appends the header of the message, and these bytes behind it. After an `Err` nothing has changed.
+// Appends the header of the message, and this body behind it. After an `Err`, which is want of memory, nothing has
+// changed.
 fn append(message: &Message, body: &[u8], into: &mut Vec<u8>) -> Result<(), WriteFault>
-    requires { length body.now ≤ 8 }
-    ensures ok { OnOk result (into.new.items ≡ into.old.items ++ (header_bytes (header_of message.now (6 + length body.now / 4)) ++ body.now)) }
+    requires { length body.now ≤ 262116 }
+    ensures ok { OnOk result (into.new.items ≡ into.old.items ++ with_body message.now body.now) }
+    ensures memory { IsErrOf result TooLong → ⊥ }
     ensures err { OnErr result (into.new.items ≡ into.old.items) }
-    ensures memory { OnErr result (IsErrOf result Memory) }
 {
     let header = Header {
         kind: message.body.kind(),

@@ -1,8 +1,10 @@
 // Why bytes spell no message.
 ghost use Rattle.std.specs.Prelude.{◌≡◌};
+ghost use Rattle.fc_msg.specs.Decoding.{fault_from};
 ghost use Rattle.fc_msg.specs.Faults.{reason_text, refusal_of};
 
 use fc_base::Memory;
+use fc_path::PathFault;
 use fc_wire::WireFault;
 
 /// The reason of a refusal: the first rule that the bytes break (RFC 5810, sections 6 and 7; the order is this
@@ -117,5 +119,23 @@ impl From<Memory> for MsgFault {
 
     fn from(_: Memory) -> Self {
         MsgFault::Memory
+    }
+}
+
+impl From<PathFault> for MsgFault {
+    ghost from_gives = { λ fault e. e ≡ fault_from fault };
+
+    fn from(fault: PathFault) -> Self {
+        match fault {
+            PathFault::Wire(fault) => MsgFault::At(Refusal::of(fault)),
+            PathFault::UnknownTlv { place } => MsgFault::At(Refusal::at(place, Reason::UnknownTlv)),
+            PathFault::CountPast { place } => MsgFault::At(Refusal::at(place, Reason::CountPast)),
+            PathFault::KeyFlag { place } => MsgFault::At(Refusal::at(place, Reason::KeyFlag)),
+            PathFault::TwoBodies { place } => MsgFault::At(Refusal::at(place, Reason::TwoBodies)),
+            PathFault::Deep { place } => MsgFault::At(Refusal::at(place, Reason::Deep)),
+            PathFault::WrongBody { place } => MsgFault::At(Refusal::at(place, Reason::WrongBody)),
+            PathFault::Trailing { place } => MsgFault::At(Refusal::at(place, Reason::Trailing)),
+            PathFault::Memory => MsgFault::Memory,
+        }
     }
 }

@@ -1,7 +1,7 @@
-//! Messages of the ForCES protocol (RFC 5810, section 7) and their bytes, both ways: at present those with which an
-//! association is made, held and ended.
+//! Messages of the ForCES protocol (RFC 5810, section 7) and their bytes, both ways.
 #![tactic(auto)]
 
+mod body;
 mod decoding;
 mod encoding;
 mod fault;
@@ -9,10 +9,11 @@ mod laws;
 mod message;
 #[cfg(test)]
 mod tests;
-mod value;
 
 pub use decoding::decode;
 pub use encoding::encode;
 pub use fault::{MsgFault, Reason, Refusal};
-pub use laws::{canonical_is_spelled, judged_once, message_is_unique};
+pub use laws::{
+    canonical_is_spelled, judged_once, message_is_unique, no_spelling_is_a_front_of_another,
+};
 pub use message::{Message, MsgBody};

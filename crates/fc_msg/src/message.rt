@@ -1,11 +1,13 @@
 // Messages.
-ghost use Rattle.std.specs.Prelude.{◌≡◌};
+ghost use Rattle.std.specs.Prelude.{◌≡◌, IfOk};
 ghost use Rattle.fc_msg.specs.Messages.{kind_of};
 
+use fc_base::{Duplicate, List, Memory};
+use fc_path::Select;
 use fc_wire::Flags;
 
 /// A message between a forwarding element and a control element (RFC 5810, section 7).
-#[derive(Clone, Copy, Debug, PartialEq, Eq)]
+#[derive(Debug, PartialEq, Eq, Drop)]
 pub struct Message {
     /// The ID of the sender.
     pub source: u32,
@@ -18,15 +20,25 @@ pub struct Message {
 }
 
 /// What a message says.
-#[derive(Clone, Copy, Debug, PartialEq, Eq)]
+#[derive(Debug, PartialEq, Eq, Drop)]
 pub enum MsgBody {
-    /// AssociationSetup: the sender asks to be associated (RFC 5810, section 7.5.1). It carries nothing at present.
-    Setup,
+    /// AssociationSetup: the sender asks to be associated, and may report on its LFBs (RFC 5810, section 7.5.1).
+    Setup(List<Select>),
     /// AssociationSetupResponse with its result: 0 success, 1 ID invalid, 2 permission denied (section 7.5.2).
     SetupResponse(u32),
     /// AssociationTeardown with its reason: 0 normal, 1 loss of heartbeats, 2 out of bandwidth, 3 out of memory,
     /// 4 application crash, 255 other (section 7.5.3).
     Teardown(u32),
+    /// Config: changes of components, in at least one LFBselect (section 7.6.1).
+    Config(List<Select>),
+    /// ConfigResponse: how each change ended (section 7.6.2).
+    ConfigResponse(List<Select>),
+    /// Query: which components are asked for (section 7.7.1).
+    Query(List<Select>),
+    /// QueryResponse: what they are (section 7.7.2).
+    QueryResponse(List<Select>),
+    /// EventNotification: what happened (section 7.8).
+    Event(List<Select>),
     /// Heartbeat (section 7.10).
     Heartbeat,
 }
@@ -36,9 +48,21 @@ pub const SETUP: u8 = 0x01;
 
 pub const TEARDOWN: u8 = 0x02;
 
+pub const CONFIG: u8 = 0x03;
+
+pub const QUERY: u8 = 0x04;
+
+pub const EVENT: u8 = 0x05;
+
+pub const REDIRECT: u8 = 0x06;
+
 pub const HEARTBEAT: u8 = 0x0f;
 
 pub const SETUP_RESPONSE: u8 = 0x11;
+
+pub const CONFIG_RESPONSE: u8 = 0x13;
+
+pub const QUERY_RESPONSE: u8 = 0x14;
 
 /// The types of the TLVs that hold a result or a reason.
 pub const AS_RESULT: u16 = 0x0010;
@@ -51,10 +75,44 @@ impl MsgBody {
         ensures { result ≡ kind_of self.now }
     {
         match self {
-            MsgBody::Setup => SETUP,
+            MsgBody::Setup(_) => SETUP,
             MsgBody::SetupResponse(_) => SETUP_RESPONSE,
             MsgBody::Teardown(_) => TEARDOWN,
+            MsgBody::Config(_) => CONFIG,
+            MsgBody::ConfigResponse(_) => CONFIG_RESPONSE,
+            MsgBody::Query(_) => QUERY,
+            MsgBody::QueryResponse(_) => QUERY_RESPONSE,
+            MsgBody::Event(_) => EVENT,
             MsgBody::Heartbeat => HEARTBEAT,
         }
+    }
+}
+
+impl Duplicate for MsgBody {
+    fn copy(&self) -> Result<Self, Memory> {
+        match self {
+            MsgBody::Setup(selects) => Ok(MsgBody::Setup(selects.copy()?)),
+            MsgBody::SetupResponse(result) => Ok(MsgBody::SetupResponse(*result)),
+            MsgBody::Teardown(reason) => Ok(MsgBody::Teardown(*reason)),
+            MsgBody::Config(selects) => Ok(MsgBody::Config(selects.copy()?)),
+            MsgBody::ConfigResponse(selects) => Ok(MsgBody::ConfigResponse(selects.copy()?)),
+            MsgBody::Query(selects) => Ok(MsgBody::Query(selects.copy()?)),
+            MsgBody::QueryResponse(selects) => Ok(MsgBody::QueryResponse(selects.copy()?)),
+            MsgBody::Event(selects) => Ok(MsgBody::Event(selects.copy()?)),
+            MsgBody::Heartbeat => Ok(MsgBody::Heartbeat),
+        }
+    }
+}
+
+impl Duplicate for Message {
+    fn copy(&self) -> Result<Self, Memory> {
+        let body = self.body.copy()?;
+        Ok(Message {
+            source: self.source,
+            dest: self.dest,
+            corr: self.corr,
+            flags: self.flags,
+            body,
+        })
     }
 }

@@ -1,6 +1,8 @@
+// Messages and faults whose bytes and places stand in the specification of the format.
 use crate::{Message, MsgBody, MsgFault, Reason, Refusal, decode, encode};
+use fc_base::{Duplicate, List};
 use fc_wire::Flags;
-use std::alloc::Global;
+use std::alloc::{AllocError, Global};
 use std::test::Fail;
 
 const QUIET: Flags = Flags {
@@ -11,113 +13,202 @@ const QUIET: Flags = Flags {
     tp: 0,
 };
 
-// A message of a type with so many words to element 2, and these bytes behind the header.
-fn bytes(alloc: Global, kind: u8, words: u8, body: &[u8]) -> Result<Vec<u8>, Fail> {
+// The bytes of hexadecimal digits in upper case, behind those that are there; blanks part them.
+fn push_digits(bytes: &mut Vec<u8>, digits: &str) -> Result<(), AllocError> {
+    let mut high = None;
+    for c in digits.bytes() {
+        let digit = match c {
+            b'0'..=b'9' => c - b'0',
+            b'A'..=b'F' => c - b'A' + 10,
+            _ => continue,
+        };
+        match high {
+            None => high = Some(digit),
+            Some(first) => {
+                bytes.push((first % 16) * 16 + digit % 16)?;
+                high = None;
+            }
+        }
+    }
+    Ok(())
+}
+
+fn bytes_of(alloc: Global, digits: &str) -> Result<Vec<u8>, AllocError> {
     let mut bytes = Vec::new(alloc);
-    bytes.extend_from_slice(&[0x10, kind, 0, words, 0x40, 0, 0, 1, 0, 0, 0, 2])?;
-    bytes.extend_from_slice(&[0u8; 12])?;
-    bytes.extend_from_slice(body)?;
+    push_digits(&mut bytes, digits)?;
     Ok(bytes)
 }
 
-#[test]
-fn the_setup_of_an_element_is_encoded_and_decoded(rt: HostRuntime) -> Result<(), Fail> {
-    let alloc = rt.alloc();
-    let setup = Message {
-        source: 1,
-        dest: 0xffff_fffd,
+// A message of a type with so many words from controller 40000001 to element 2, and these bytes behind the header.
+fn framed(alloc: Global, kind: u8, words: u8, body: &str) -> Result<Vec<u8>, AllocError> {
+    let mut bytes = Vec::new(alloc);
+    bytes.extend_from_slice(&[0x10, kind, 0, words, 0x40, 0, 0, 1, 0, 0, 0, 2])?;
+    bytes.extend_from_slice(&[0u8; 12])?;
+    push_digits(&mut bytes, body)?;
+    Ok(bytes)
+}
+
+// A message from controller 40000001 to element 2.
+fn message(body: MsgBody) -> Message {
+    Message {
+        source: 0x4000_0001,
+        dest: 2,
         corr: 0,
-        flags: Flags {
-            ack: 3,
-            pri: 0,
-            em: 0,
-            at: false,
-            tp: 0,
-        },
-        body: MsgBody::Setup,
-    };
-    let mut out = Vec::new(alloc);
-    encode(&setup, &mut out).ok().ok_or("memory")?;
-    let wanted = [
-        0x10, 0x01, 0, 6, 0, 0, 0, 1, 0xff, 0xff, 0xff, 0xfd, 0, 0, 0, 0, 0, 0, 0, 0, 0xc0, 0, 0, 0,
-    ];
-    assert_eq!(rt; out.as_slice(), wanted.as_slice());
-    assert_eq!(rt; decode(alloc, out.as_slice()), Ok(setup));
+        flags: QUIET,
+        body,
+    }
+}
+
+// Canonical messages: a heartbeat, the setup of an element, its answer, a teardown, a query and its answer, a claim and
+// its reply, the first and the last message of a transaction, and its reply.
+const SAMPLES: [&str; 11] = [
+    "100F0006 40000001 00000002 00000000 00000000 00000000",
+    "10010006 00000001 FFFFFFFD 00000000 00000000 C0000000",
+    "10110008 40000001 00000002 00000000 00000000 00000000 00100008 00000002",
+    "10020008 40000001 00000002 00000000 00000000 00000000 00110008 000000FF",
+    "1004000D 40000001 00000002 00000000 00000007 00000000 1000001C 00000001 00000001 00070010 0110000C 00000001 00000007",
+    "1014000F 00000002 40000001 00000000 00000007 00000000 10000024 00000001 00000001 00090018 01100014 00000001 00000007 01120005 02000000",
+    "1003000F 40000001 00000001 00000101 00000000 C0400000 10000024 0001F001 00000001 00010018 01100014 00000001 00000001 01120008 00000101",
+    "1013000F 00000001 40000001 00000101 00000000 00000000 10000024 0001F001 00000001 00030018 01100014 00000001 00000001 01140008 00000000",
+    "10030016 40000001 00000001 00000101 00000001 C0600000 10000040 0001F001 00000001 00010034 01100030 00000001 00000004 01120024 00000101 00000001 01120014 00000001 00000001 00000002 00000002 01120004",
+    "10030011 40000001 00000001 00000101 00000003 C0700000 1000002C 0001F001 00000001 0001001C 01100018 00000001 00000005 0112000C 00000101 00000001 000C0004",
+    "10130012 00000001 40000001 00000101 00000003 00000000 10000030 0001F001 00000001 00030018 01100014 00000001 00000005 01140008 00000000 000D000C 01140008 00000000",
+];
+
+#[test]
+fn canonical_messages_are_decoded_and_encoded_again(rt: HostRuntime) -> Result<(), Fail> {
+    let alloc = rt.alloc();
+    for digits in SAMPLES {
+        let bytes = bytes_of(alloc, digits)?;
+        let message = decode(alloc, bytes.as_slice()).ok().ok_or("a message")?;
+        let copy = message.copy()?;
+        assert_eq!(rt; copy, message);
+        let mut out = Vec::new(alloc);
+        encode(&message, &mut out).ok().ok_or("memory")?;
+        assert_eq!(rt; out.as_slice(), bytes.as_slice(), "{digits}");
+    }
     Ok(())
 }
 
 #[test]
-fn bodies_with_a_number_are_decoded_and_encoded(rt: HostRuntime) -> Result<(), Fail> {
+fn bodies_are_what_the_bytes_say(rt: HostRuntime) -> Result<(), Fail> {
     let alloc = rt.alloc();
-    for (kind, body, wanted) in [
-        (
-            0x11u8,
-            [0u8, 0x10, 0, 8, 0, 0, 0, 2],
-            MsgBody::SetupResponse(2),
-        ),
-        (0x02, [0, 0x11, 0, 8, 0, 0, 0, 255], MsgBody::Teardown(255)),
-        (
-            0x02,
-            [0, 0x11, 0, 8, 0xff, 0xff, 0xff, 0xff],
-            MsgBody::Teardown(0xffff_ffff),
-        ),
-    ] {
-        let bytes = bytes(alloc, kind, 8, &body)?;
-        let message = Message {
-            source: 0x4000_0001,
-            dest: 2,
-            corr: 0,
-            flags: QUIET,
-            body: wanted,
-        };
-        assert_eq!(rt; decode(alloc, bytes.as_slice()), Ok(message));
-        let mut out = Vec::new(alloc);
-        encode(&message, &mut out).ok().ok_or("memory")?;
-        assert_eq!(rt; out.as_slice(), bytes.as_slice());
-    }
+    let setup = bytes_of(alloc, SAMPLES[1])?;
+    let wanted = Message {
+        source: 1,
+        dest: 0xffff_fffd,
+        corr: 0,
+        flags: Flags { ack: 3, ..QUIET },
+        body: MsgBody::Setup(List::new(alloc)),
+    };
+    assert_eq!(rt; decode(alloc, setup.as_slice()), Ok(wanted));
+    let response = bytes_of(alloc, SAMPLES[2])?;
+    assert_eq!(rt;
+        decode(alloc, response.as_slice()),
+        Ok(message(MsgBody::SetupResponse(2)))
+    );
+    let teardown = bytes_of(alloc, SAMPLES[3])?;
+    assert_eq!(rt;
+        decode(alloc, teardown.as_slice()),
+        Ok(message(MsgBody::Teardown(255)))
+    );
+    Ok(())
+}
+
+#[test]
+fn padding_is_free_and_may_lack_in_the_lengths(rt: HostRuntime) -> Result<(), Fail> {
+    let alloc = rt.alloc();
+    let canonical = bytes_of(alloc, SAMPLES[5])?;
+    let other = bytes_of(
+        alloc,
+        "1014000F 00000002 40000001 00000000 00000007 00000000 10000021 00000001 00000001 00090015 01100011 00000001 00000007 01120005 02FFFFFF",
+    )?;
+    assert_eq!(rt;
+        decode(alloc, other.as_slice()),
+        decode(alloc, canonical.as_slice())
+    );
     Ok(())
 }
 
 #[test]
 fn the_first_broken_rule_is_told(rt: HostRuntime) -> Result<(), Fail> {
     let alloc = rt.alloc();
-    let number: &[u8] = &[0, 0x10, 0, 8, 0, 0, 0, 0];
-    let table: [(u8, u8, &[u8], usize, Reason); 14] = [
-        (0x0f, 7, &[], 0, Reason::Truncated),
-        (0x0f, 5, &[], 2, Reason::ShortLength),
-        (0x0f, 6, &[0, 0, 0, 0], 24, Reason::Trailing),
-        (0x0f, 8, number, 1, Reason::NotBuilt),
-        (0x01, 8, number, 1, Reason::NotBuilt),
-        (0x03, 6, &[], 1, Reason::NotBuilt),
-        (0x11, 6, &[], 24, Reason::WrongBody),
-        (0x11, 7, &[0, 0x10, 0, 3], 24, Reason::TlvShort),
-        (0x11, 7, &[0, 0x10, 0, 5], 24, Reason::TlvPast),
-        (0x11, 7, &[0, 0x02, 0, 4], 24, Reason::UnknownTlv),
-        (0x11, 8, &[0, 0x11, 0, 8, 0, 0, 0, 0], 24, Reason::WrongBody),
-        (0x11, 8, &[0, 0x10, 0, 7, 0, 0, 0, 0], 24, Reason::WrongBody),
-        (
-            0x11,
-            9,
-            &[0, 0x10, 0, 8, 0, 0, 0, 0, 0, 0x10, 0, 4],
-            32,
-            Reason::Trailing,
-        ),
+    let number = "00100008 00000000";
+    let table: [(u8, u8, &str, usize, Reason); 27] = [
+        (0x0f, 7, "", 0, Reason::Truncated),
+        (0x0f, 5, "", 2, Reason::ShortLength),
+        (0x0f, 6, "00000000", 24, Reason::Trailing),
+        (0x0f, 8, number, 24, Reason::Trailing),
+        (0x0f, 7, "00100003", 24, Reason::TlvShort),
+        (0x0f, 8, "77770008 00000000", 24, Reason::UnknownTlv),
+        (0x06, 8, "77770008 00000000", 1, Reason::NotBuilt),
+        (0x07, 6, "", 1, Reason::UnknownType),
+        (0x15, 8, number, 1, Reason::UnknownType),
+        (0x01, 8, number, 24, Reason::WrongBody),
+        (0x03, 6, "", 24, Reason::WrongBody),
+        (0x13, 6, "", 24, Reason::WrongBody),
+        (0x04, 7, "10000003", 24, Reason::TlvShort),
+        (0x04, 7, "10000005", 24, Reason::TlvPast),
+        (0x05, 9, "1000000C 00000001 00000001", 36, Reason::WrongBody),
+        (0x11, 6, "", 24, Reason::WrongBody),
+        (0x11, 7, "00100003", 24, Reason::TlvShort),
+        (0x11, 7, "00100005", 24, Reason::TlvPast),
+        (0x11, 7, "00020004", 24, Reason::UnknownTlv),
+        (0x11, 8, "00110008 00000000", 24, Reason::WrongBody),
+        (0x11, 8, "00100007 00000000", 24, Reason::WrongBody),
+        (0x11, 9, "00100008 00000000 00100004", 32, Reason::Trailing),
         (
             0x02,
             9,
-            &[0, 0x11, 0, 8, 0, 0, 0, 0, 0xff, 0xff, 0, 4],
+            "00110008 00000000 FFFF0004",
             32,
             Reason::UnknownTlv,
         ),
+        (0x03, 9, "1000000C 00000001 00000001", 36, Reason::WrongBody),
+        (
+            0x04,
+            13,
+            "1000001C 00000001 00000001 00010010 0110000C 00000001 00000007",
+            36,
+            Reason::WrongBody,
+        ),
+        (
+            0x04,
+            14,
+            "1000001C 00000001 00000001 00070010 0110000C 00000001 00000007 00110004",
+            52,
+            Reason::WrongBody,
+        ),
+        (
+            0x04,
+            14,
+            "1000001C 00000001 00000001 00070010 0110000C 80000001 00000007 00110004",
+            44,
+            Reason::KeyFlag,
+        ),
     ];
     for (kind, words, body, place, reason) in table {
-        let bytes = bytes(alloc, kind, words, body)?;
+        let bytes = framed(alloc, kind, words, body)?;
         assert_eq!(rt;
             decode(alloc, bytes.as_slice()),
             Err(MsgFault::At(Refusal { place, reason })),
-            "{place}"
+            "{body}"
         );
     }
+    Ok(())
+}
+
+#[test]
+fn headers_and_names_of_reasons(rt: HostRuntime) -> Result<(), Fail> {
+    let alloc = rt.alloc();
+    let short = Refusal::at(0, Reason::Truncated);
+    assert_eq!(rt; decode(alloc, &[0x20, 0x0f]), Err(MsgFault::At(short)));
+    let version = bytes_of(
+        alloc,
+        "200F0005 00000000 00000000 00000000 00000000 00000000",
+    )?;
+    let fault = Refusal::at(0, Reason::Version);
+    assert_eq!(rt; decode(alloc, version.as_slice()), Err(MsgFault::At(fault)));
     assert_eq!(rt; Reason::KeyFlag.name(), "key-flag");
     Ok(())
 }

@@ -52,7 +52,7 @@ typed_in (x ∷ xs) message n o all e =
 own_type : (message n : ℕ) (o : Operation) → operation_of message n ≡ Some o → operation_of message (type_of o) ≡ Some o
 own_type message n o e = ap (operation_of message) (sym (typed_in operations message n o all_typed e)) ∙ e
 
-all_of : {A : Type 0} (Is : A → List ℕ → Type 0) (P : A → Type 0) (one : (x : A) (bytes : List ℕ) → Is x bytes → P x) (xs : List A) (bytes : List ℕ) → Each Is xs bytes → AllByRecursion P xs
+pub all_of : {A : Type 0} (Is : A → List ℕ → Type 0) (P : A → Type 0) (one : (x : A) (bytes : List ℕ) → Is x bytes → P x) (xs : List A) (bytes : List ℕ) → Each Is xs bytes → AllByRecursion P xs
 all_of Is P one [] bytes h = tt
 all_of Is P one (x ∷ xs) bytes h = (one x h.0 h.3, all_of Is P one xs h.1 h.4)
 

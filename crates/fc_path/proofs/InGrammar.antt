@@ -85,7 +85,7 @@ pub key_whole : (key : Option Key) → length (key_written key).text % 4 ≡ 0
 key_whole None = refl
 key_whole (Some key) = tlv_length 273 _
 
-each_in : {A : Type 0} (f : A → Written) (P : A → Type 0) (Is : A → List ℕ → Type 0) (one : (x : A) → P x → (f x).fits ≡ true → Is x (f x).text) (xs : List A) → AllByRecursion P xs → (joined (map f xs)).fits ≡ true
+pub each_in : {A : Type 0} (f : A → Written) (P : A → Type 0) (Is : A → List ℕ → Type 0) (one : (x : A) → P x → (f x).fits ≡ true → Is x (f x).text) (xs : List A) → AllByRecursion P xs → (joined (map f xs)).fits ≡ true
     → Each Is xs (joined (map f xs)).text
 each_in f P Is one [] s h = refl
 each_in f P Is one (x ∷ xs) s h = ((f x).text, (joined (map f xs)).text, refl, one x s.0 (both_first (f x).fits _ h), each_in f P Is one xs s.1 (both_second (f x).fits _ h))

@@ -38,17 +38,17 @@ not_err X x fault e = cc
 same_fault : {X : Type 0} (e f : PathFault) → ◌≡◌ {A = Result X PathFault} (Err e) (Err f) → e ≡ f
 same_fault e f h = cc
 
-read_ok : {X : Type 0} (x : X) → Placed (Ok x)
+pub read_ok : {X : Type 0} (x : X) → Placed (Ok x)
 read_ok {X = X} x = record { has = λ fault e. not_err X x fault e }
 
-broken : {X : Type 0} (fault : PathFault) → HasPlace fault → Placed {X = X} (Err fault)
+pub broken : {X : Type 0} (fault : PathFault) → HasPlace fault → Placed {X = X} (Err fault)
 broken fault h = record { has = λ f e. subst HasPlace (same_fault fault f e) h }
 
-bind : {A B : Type 0} (r : Result A PathFault) (f : A → Result B PathFault) → Placed r → ((x : A) → Placed (f x)) → Placed (r >>= f)
+pub bind : {A B : Type 0} (r : Result A PathFault) (f : A → Result B PathFault) → Placed r → ((x : A) → Placed (f x)) → Placed (r >>= f)
 bind (Ok x) f h g = g x
 bind (Err fault) f h g = broken fault (h.has fault refl)
 
-either : {X : Type 0} (b : Bool) (x y : Result X PathFault) → Placed x → Placed y → Placed (cond b x y)
+pub either : {X : Type 0} (b : Bool) (x y : Result X PathFault) → Placed x → Placed y → Placed (cond b x y)
 either true x y h k = h
 either false x y h k = k
 
@@ -56,7 +56,7 @@ fault_of : (b : Bool) (x y : PathFault) → HasPlace x → HasPlace y → HasPla
 fault_of true x y h k = h
 fault_of false x y h k = k
 
-shut_placed : (stray : TlvItem → PathFault) (placed : (t : TlvItem) → HasPlace (stray t)) (ts : List TlvItem) (fault : Option WireFault) → Placed (shut stray ts fault)
+pub shut_placed : (stray : TlvItem → PathFault) (placed : (t : TlvItem) → HasPlace (stray t)) (ts : List TlvItem) (fault : Option WireFault) → Placed (shut stray ts fault)
 shut_placed stray placed [] None = read_ok tt
 shut_placed stray placed [] (Some f) = broken (faults.Wire f) tt
 shut_placed stray placed (t ∷ ts) fault = broken (stray t) (placed t)
@@ -67,22 +67,22 @@ misplaced_placed t = fault_of (is_known t.kind) (faults.WrongBody t.place) (faul
 beside_placed : (t : TlvItem) → HasPlace (beside t)
 beside_placed t = fault_of (is_known t.kind) (faults.TwoBodies t.place) (faults.UnknownTlv t.place) tt tt
 
-trailing_placed : (t : TlvItem) → HasPlace (trailing t)
+pub trailing_placed : (t : TlvItem) → HasPlace (trailing t)
 trailing_placed t = fault_of (is_known t.kind) (faults.Trailing t.place) (faults.UnknownTlv t.place) tt tt
 
 module _ {X : Type 0} (one : TlvItem → Result X PathFault) (placed : (t : TlvItem) → Placed (one t)) where
-  each_placed : (ts : List TlvItem) (fault : Option WireFault) → Placed (each_in one ts fault)
+  pub each_placed : (ts : List TlvItem) (fault : Option WireFault) → Placed (each_in one ts fault)
   each_placed [] None = read_ok []
   each_placed [] (Some f) = broken (faults.Wire f) tt
   each_placed (t ∷ ts) fault =
       bind (one t) (λ x. each_in one ts fault >>= λ xs. Ok (x ∷ xs)) (placed t) (λ x. bind (each_in one ts fault) (λ xs. Ok (x ∷ xs)) (each_placed ts fault) (λ xs. read_ok (x ∷ xs)))
 
-  some_placed : (end : ℕ) (ts : List TlvItem) (fault : Option WireFault) → Placed (some_in one end ts fault)
+  pub some_placed : (end : ℕ) (ts : List TlvItem) (fault : Option WireFault) → Placed (some_in one end ts fault)
   some_placed end [] None = broken (faults.WrongBody end) tt
   some_placed end [] (Some f) = broken (faults.Wire f) tt
   some_placed end (t ∷ ts) fault = each_placed (t ∷ ts) fault
 
-  single_placed : (kind end : ℕ) (ts : List TlvItem) (fault : Option WireFault) → Placed (single kind one end ts fault)
+  pub single_placed : (kind end : ℕ) (ts : List TlvItem) (fault : Option WireFault) → Placed (single kind one end ts fault)
   single_placed kind end [] None = broken (faults.WrongBody end) tt
   single_placed kind end [] (Some f) = broken (faults.Wire f) tt
   single_placed kind end (t ∷ ts) fault =
@@ -157,7 +157,7 @@ oper_by_placed : (which : Option Operation) (t : TlvItem) → Placed (oper_by wh
 oper_by_placed None t = broken _ (fault_of (in_select t.kind) (faults.WrongBody t.place) (faults.UnknownTlv t.place) tt tt)
 oper_by_placed (Some which) t = operation_placed which t
 
-select_placed : (message : ℕ) (t : TlvItem) → Placed (select_at message t)
+pub select_placed : (message : ℕ) (t : TlvItem) → Placed (select_at message t)
 select_placed message t =
     let view = tlvs (t.place + 12) (drop 8 t.padded) in
     let opers = some_in (oper_at message) (end_of t) view.items view.fault in

@@ -19,7 +19,7 @@ once message tlv s r lent a b = ok_same s r (sym (select_read message s tlv lent
 few_more : (kind : ℕ) (body padded bytes : List ℕ) → IsTlv kind body padded bytes → length padded < length body + 4
 few_more kind body padded bytes h = let few = h.few in omega (arith, ap length h.value, length-append body h.padding)
 
-read_as : (message place : ℕ) (s : Select) (bytes : List ℕ) → (h : IsSelect message s bytes) → select_at message (item 4096 place h.0 h.1) ≡ Ok s
+pub read_as : (message place : ℕ) (s : Select) (bytes : List ℕ) → (h : IsSelect message s bytes) → select_at message (item 4096 place h.0 h.1) ≡ Ok s
 read_as message place s bytes h = select_read message s (item 4096 place h.0 h.1) (few_more 4096 h.0 h.1 bytes h.3) (refl, h.2, h.4)
 
 one_of : (message place : ℕ) (s : Select) (bytes : List ℕ) (h : IsSelect message s bytes) → one_tlv place (bytes ++ []) ≡ Ok (item 4096 place h.0 h.1, [])

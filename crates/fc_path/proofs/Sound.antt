@@ -40,7 +40,7 @@ else_ok : {A E : Type 0} (b : Bool) (d : E) (y : Result A E) (x : A) → cond b 
 else_ok true d y x e = never d x e
 else_ok false d y x e = (refl, e)
 
-then_ok : {A E : Type 0} (b : Bool) (d : E) (y : Result A E) (x : A) → cond b y (Err d) ≡ Ok x → (b ≡ true) × (y ≡ Ok x)
+pub then_ok : {A E : Type 0} (b : Bool) (d : E) (y : Result A E) (x : A) → cond b y (Err d) ≡ Ok x → (b ≡ true) × (y ≡ Ok x)
 then_ok true d y x e = (refl, e)
 then_ok false d y x e = never d x e
 
@@ -48,7 +48,7 @@ chosen : {A : Type 0} (b : Bool) (x y z : A) → cond b x y ≡ z → ((b ≡ tr
 chosen true x y z e = inl (refl, e)
 chosen false x y z e = inr (refl, e)
 
-bind_ok : {A B : Type 0} (r : Result A PathFault) (f : A → Result B PathFault) (y : B) → (r >>= f) ≡ Ok y → (x : A) × (r ≡ Ok x) × (f x ≡ Ok y)
+pub bind_ok : {A B : Type 0} (r : Result A PathFault) (f : A → Result B PathFault) (y : B) → (r >>= f) ≡ Ok y → (x : A) × (r ≡ Ok x) × (f x ≡ Ok y)
 bind_ok (Ok x) f y e = (x, refl, e)
 bind_ok (Err d) f y e = never d y e
 
@@ -80,17 +80,17 @@ bytes_back (x ∷ xs) ys h = bytes_back xs ys h.1
 pub bytes_split : (bytes xs ys : List ℕ) → bytes ≡ xs ++ ys → AreBytes bytes → AreBytes xs × AreBytes ys
 bytes_split bytes xs ys e h = let all = subst AreBytes e h in (bytes_front xs ys all, bytes_back xs ys all)
 
-bytes_padded : (kind : ℕ) (body padded bytes : List ℕ) → IsTlv kind body padded bytes → AreBytes bytes → AreBytes padded
+pub bytes_padded : (kind : ℕ) (body padded bytes : List ℕ) → IsTlv kind body padded bytes → AreBytes bytes → AreBytes padded
 bytes_padded kind body padded bytes t h = let all = subst AreBytes t.spelled h in all.1.1.1.1
 
 front_all : (bytes front rest : List ℕ) → bytes ≡ front ++ rest → rest ≡ [] → front ≡ bytes
 front_all bytes front rest e r = sym (e ∙ ap (λ x. front ++ x) r ∙ append-nil front)
 
-abbrev Tiles : ℕ → List TlvItem → Option WireFault → List ℕ → Type 0
+abbrev pub Tiles : ℕ → List TlvItem → Option WireFault → List ℕ → Type 0
 Tiles place ts fault bytes = IsTiling IsTlvAt tlv_fault place ts fault bytes
 
 -- nothing stands behind
-shut_ok : (stray : TlvItem → PathFault) (ts : List TlvItem) (fault : Option WireFault) (place : ℕ) (bytes : List ℕ) → Tiles place ts fault bytes → shut stray ts fault ≡ Ok tt → bytes ≡ []
+pub shut_ok : (stray : TlvItem → PathFault) (ts : List TlvItem) (fault : Option WireFault) (place : ℕ) (bytes : List ℕ) → Tiles place ts fault bytes → shut stray ts fault ≡ Ok tt → bytes ≡ []
 shut_ok stray [] None place bytes h e = h
 shut_ok stray [] (Some f) place bytes h e = never _ tt e
 shut_ok stray (t ∷ ts) fault place bytes h e = never _ tt e
@@ -119,7 +119,7 @@ module _ {X : Type 0} (Is : X → List ℕ → Type 0) (one : TlvItem → Result
   some_spelled end (t ∷ ts) fault place bytes xs fine h e = (each_some t ts fault xs e, each_spelled (t ∷ ts) fault place bytes xs fine h e)
 
 -- the one TLV that stands alone
-single_spelled : {X : Type 0} (kind : ℕ) (one : TlvItem → Result X PathFault) (end : ℕ) (ts : List TlvItem) (fault : Option WireFault) (place : ℕ) (bytes : List ℕ) (x : X)
+pub single_spelled : {X : Type 0} (kind : ℕ) (one : TlvItem → Result X PathFault) (end : ℕ) (ts : List TlvItem) (fault : Option WireFault) (place : ℕ) (bytes : List ℕ) (x : X)
     → Tiles place ts fault bytes → single kind one end ts fault ≡ Ok x → (t : TlvItem) × IsTlv kind t.body t.padded bytes × (one t ≡ Ok x)
 single_spelled kind one end [] None place bytes x h e = never _ x e
 single_spelled kind one end [] (Some f) place bytes x h e = never _ x e

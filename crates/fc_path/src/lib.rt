@@ -22,4 +22,6 @@ pub use laws::{
 };
 pub use oper::{Leaf, Oper, OperKind, Select, Spot, Step};
 pub use path::{Body, Key, PathData};
+pub use read_select::are_bytes;
 pub use results::fits_results;
+pub use stray::{misplaced, no_more};

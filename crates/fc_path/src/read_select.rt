@@ -145,9 +145,9 @@ fn read_select(alloc: Global, message: u8, tlv: &Tlv, padded: &[u8]) -> Result<S
     })
 }
 
-// That the items of a slice of bytes are bytes, for proofs.
+/// That the items of a slice of bytes are bytes, for proofs: it does nothing.
 #[inline(always)]
-fn are_bytes(bytes: &[u8])
+pub fn are_bytes(bytes: &[u8])
     ensures { AreBytes bytes.now }
 {}
 

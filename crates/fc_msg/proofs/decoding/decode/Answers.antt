@@ -1,17 +1,17 @@
-use Rattle.std.proofs.Common.{sym, ◌∙◌}
-use Rattle.fc_msg.proofs.Read.{read, none_read}
-use Rattle.fc_msg.proofs.Sound.{sound}
-use Rattle.fc_msg.proofs.Unique.{same_message}
+use Rattle.fc_msg.proofs.Reading.{gives_accepted, gives_exact, gives_only, gives_proper, gives_spelled}
 use Rattle.fc_msg.proofs.decoding.decode.Goals as goal
 
-pub returns-in-Ok-clause-only : goal.returns-in-Ok-clause-only
-returns-in-Ok-clause-only c = λ m is. same_message _ m _ c.in-Ok.ensures.found is
+pub returns-clause-found : goal.returns-clause-found
+returns-clause-found c = gives_spelled c.args.bytes.now c.message_of.result c.are_bytes.ensures c.message_of.ensures.found
 
-pub returns-in-Err-clause-only : goal.returns-in-Err-clause-only
-returns-in-Err-clause-only c = λ m is. (let e = sym (sound m _ is) ∙ c.in-Err.ensures.refused in cc)
+pub returns-clause-proper : goal.returns-clause-proper
+returns-clause-proper c = gives_proper c.args.bytes.now c.message_of.result c.are_bytes.ensures c.message_of.ensures.found
 
-pub returns-in-Ok-clause-exact : goal.returns-in-Ok-clause-exact
-returns-in-Ok-clause-exact c = read _ _ c.in-Ok.ensures.found
+pub returns-clause-only : goal.returns-clause-only
+returns-clause-only c = gives_only c.args.bytes.now c.message_of.result c.message_of.ensures.found c.message_of.ensures.refused
 
-pub returns-in-Err-clause-exact : goal.returns-in-Err-clause-exact
-returns-in-Err-clause-exact c = none_read _ _ c.in-Err.ensures.refused
+pub returns-clause-exact : goal.returns-clause-exact
+returns-clause-exact c = gives_exact c.args.bytes.now c.message_of.result c.message_of.ensures.found c.message_of.ensures.refused
+
+pub returns-clause-accepted : goal.returns-clause-accepted
+returns-clause-accepted c = gives_accepted c.args.bytes.now c.message_of.result c.message_of.ensures.found
