@@ -1,9 +1,8 @@
 -- What an element does with what comes: RFC 5810, sections 4.4 and 7.5 on associations and 7.10 on heartbeats.
-use Rattle.std.specs.Prelude.{ℕ, ◌+◌, ◌-◌, ◌/◌, ◌%◌, ◌^◌, ◌==◌, ◌&&◌, not, nat_lt, max, Bool, false, if◌then◌else◌, List, [], ◌∷◌, ◌++◌, map, codes, decimal}
+use Rattle.std.specs.Prelude.{ℕ, ◌-◌, ◌/◌, ◌%◌, ◌^◌, ◌==◌, ◌&&◌, not, nat_lt, max, Bool, false, if◌then◌else◌, List, [], ◌∷◌, ◌++◌, map, codes, decimal}
 use Rattle.std.specs.FinMap.{contains_key, entries, remove, len}
 use Rattle.fc_base.specs.Hex.{hex}
 use Rattle.fc_assoc.specs.Associations.{AssociationMap, entered, renewed, still_heard}
-use Rattle.fc_assoc.specs.declared.heard.Heard.{Heard}
 use Rattle.fc_wire.specs.Flags.{FlagValues}
 use Rattle.fc_msg.specs.declared.message.Message.{Message}
 use Rattle.fc_msg.specs.declared.message.MsgBody.{MsgBody}

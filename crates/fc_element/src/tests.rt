@@ -88,18 +88,13 @@ fn a_heartbeat_is_answered_until_a_teardown(rt: HostRuntime) -> Result<(), Fail>
     let Some(out) = outs.as_slice().first() else {
         return Err(Fail::from("no answer"));
     };
-    let answer = Message {
-        source: 2,
-        dest: 0x4000_0001,
-        ..message(2, 0, MsgBody::Heartbeat)
+    let mut answer = message(0x4000_0001, 0, MsgBody::Heartbeat);
+    answer.source = 2;
+    let wanted = Out {
+        peer: 5,
+        message: answer,
     };
-    assert_eq!(rt;
-        *out,
-        Out {
-            peer: 5,
-            message: answer
-        }
-    );
+    assert_eq!(rt; out, &wanted);
     let outs = step(
         &mut element,
         ElIn::Arrived(5, message(2, 1, MsgBody::Heartbeat)),

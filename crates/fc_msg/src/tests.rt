@@ -1,6 +1,6 @@
 // Messages and faults whose bytes and places stand in the specification of the format.
 use crate::{Message, MsgBody, MsgFault, Reason, Refusal, decode, encode};
-use fc_base::{Duplicate, List};
+use fc_base::{Duplicate, List, WriteFault};
 use fc_wire::Flags;
 use std::alloc::{AllocError, Global};
 use std::test::Fail;
@@ -210,5 +210,40 @@ fn headers_and_names_of_reasons(rt: HostRuntime) -> Result<(), Fail> {
     let fault = Refusal::at(0, Reason::Version);
     assert_eq!(rt; decode(alloc, version.as_slice()), Err(MsgFault::At(fault)));
     assert_eq!(rt; Reason::KeyFlag.name(), "key-flag");
+    Ok(())
+}
+
+// Appends an LFBselect with one GET of so many IDs, which takes 24 bytes and four for each.
+fn push_get(bytes: &mut Vec<u8>, ids: u16) -> Result<(), AllocError> {
+    let size = 24 + 4 * (ids % 0x3fff);
+    for (kind, len) in [(0x1000u16, size), (0, 0), (0, 0), (0x0007, size - 12), (0x0110, size - 16)] {
+        bytes.extend_from_slice(&kind.to_be_bytes())?;
+        bytes.extend_from_slice(&len.to_be_bytes())?;
+    }
+    bytes.extend_from_slice(&[0, 0])?;
+    bytes.extend_from_slice(&ids.to_be_bytes())?;
+    bytes.resize(bytes.len() + 4 * usize::from(ids), 0)?;
+    Ok(())
+}
+
+#[test]
+fn the_longest_message_is_taken_and_a_longer_one_refused(rt: HostRuntime) -> Result<(), Fail> {
+    let alloc = rt.alloc();
+    let mut bytes = Vec::new(alloc);
+    push_digits(&mut bytes, "1004FFFF 40000001 00000002 00000000 00000000 00000000")?;
+    for ids in [16369u16, 16369, 16369, 16369, 23] {
+        push_get(&mut bytes, ids)?;
+    }
+    assert_eq!(rt; bytes.len(), 4 * 65535);
+    let mut message = decode(alloc, bytes.as_slice()).ok().ok_or("a message")?;
+    let mut out = Vec::new(alloc);
+    encode(&message, &mut out).ok().ok_or("memory")?;
+    assert!(rt; out.as_slice() == bytes.as_slice());
+    if let MsgBody::Query(selects) = &mut message.body {
+        let more = selects.get(4).ok_or("a select")?.copy()?;
+        selects.push(more)?;
+    }
+    assert_eq!(rt; encode(&message, &mut out), Err(WriteFault::TooLong));
+    assert_eq!(rt; out.len(), bytes.len());
     Ok(())
 }

@@ -49,7 +49,7 @@ pub fn deliver<H: Hub>(
 }
 
 /// What stands first among the bytes of a peer.
-#[derive(Clone, Copy, Debug, PartialEq, Eq)]
+#[derive(Debug, PartialEq, Eq, Drop)]
 pub enum Next {
     /// Less than a frame.
     Nothing,

@@ -1,6 +1,6 @@
-use Rattle.std.proofs.Common.{arith, ◌∙◌, sym}
+use Rattle.std.proofs.Common.{arith, ◌∙◌}
 use Rattle.std.specs.FinMap.{len-entries}
-use Rattle.fc_element.proofs.Beats.{all_sent, beats_length, none_past, one_more}
+use Rattle.fc_element.proofs.Beats.{all_sent, beats_length, one_more}
 use Rattle.fc_element.proofs.replies.push_beats.Goals as goal
 
 pub loop-place-preserved : goal.loop-place-preserved
