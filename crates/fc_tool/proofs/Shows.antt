@@ -5,9 +5,9 @@ use Rattle.std.proofs.KnownBytes.{Appends-kept, Appends-nil, Appends-trans, Cons
 use Rattle.std.proofs.lemmas.List.{take_all, take-append-le}
 use Rattle.std.proofs.lemmas.Grind.{flat_map-append}
 use Rattle.fc_base.specs.Content.{AppendsFront}
-use Rattle.fc_wire.specs.declared.header.Header.{Header}
+use Rattle.fc_msg.specs.declared.message.Message.{Message}
 use Rattle.fc_wire.specs.Frames.{frame_len, joined, IsPartial}
-use Rattle.fc_tool.specs.declared.faults.Fault.{Fault}
+use Rattle.fc_msg.specs.declared.fault.Refusal.{Refusal}
 use Rattle.fc_tool.specs.declared.show.Shown.{Shown}
 use Rattle.fc_tool.specs.declared.show.Shown.TheVariants.{Done, ReadFault, Refused, TooLong}
 use Rattle.fc_tool.specs.declared.stops.Stop.{Stop}
@@ -31,10 +31,10 @@ whole_front a b xs lines = (xs, [], sym (append-nil xs), lines)
 front_kept : (a b c : Option (List ℕ)) (xs : List ℕ) → AppendsFront a b xs → Keeps b c → AppendsFront a c xs
 front_kept a b c xs (front, back, split, first) kept = (front, back, split, Appends-kept a b c front first kept)
 
-pub text_on : (hs ks : List Header) (a b c : Option (List ℕ)) → Appends a b (text_of hs) → Appends b c (text_of ks) → Appends a c (text_of (hs ++ ks))
+pub text_on : (hs ks : List Message) (a b c : Option (List ℕ)) → Appends a b (text_of hs) → Appends b c (text_of ks) → Appends a c (text_of (hs ++ ks))
 text_on hs ks a b c first second = rw flat_map-append (Appends-trans a b c _ _ first second)
 
-text_then : (hs ks : List Header) (text : List ℕ) → text_of (hs ++ ks) ++ text ≡ text_of hs ++ (text_of ks ++ text)
+text_then : (hs ks : List Message) (text : List ℕ) → text_of (hs ++ ks) ++ text ≡ text_of hs ++ (text_of ks ++ text)
 text_then hs ks text = rw (flat_map-append, append_assoc) refl
 
 -- ---- a piece
@@ -44,7 +44,7 @@ pub stops_at_once : (fed : ℕ) (bytes : List ℕ) (known : Option (List ℕ)) �
 stops_at_once fed bytes known = ([], bytes, [], record { frames = []; whole = refl; each = tt }, inl refl, none_written known [])
 
 -- the writing stopped within the lines that were gathered
-pub lines_stop : (fed : ℕ) (bytes : List ℕ) (hs : List Header) (rest next text : List ℕ) (old new : Option (List ℕ))
+pub lines_stop : (fed : ℕ) (bytes : List ℕ) (hs : List Message) (rest next text : List ℕ) (old new : Option (List ℕ))
     → Reaches bytes hs rest → IsNextText ⊥ (fed - length rest) rest next → text ≡ text_of hs ++ next → AppendsFront old new text → StoppedAt ⊥ fed bytes old new
 lines_stop fed bytes hs rest next text old new there is e front = (hs, rest, next, there, is, rw e at front)
 
@@ -58,30 +58,30 @@ pub no_item : (xs : List ℕ) → length xs ≡ 0 → xs ≡ []
 no_item [] e = refl
 no_item (x ∷ xs) e = absurd (omega arith)
 
-pub reaches_length : (bytes : List ℕ) (hs : List Header) (rest : List ℕ) → Reaches bytes hs rest → length rest ≤ length bytes
+pub reaches_length : (bytes : List ℕ) (hs : List Message) (rest : List ℕ) → Reaches bytes hs rest → length rest ≤ length bytes
 reaches_length bytes hs rest there = omega (arith, ap length there.whole, length-append (joined there.frames) rest)
 
 -- the writing had not begun on what comes next
-pub stops_here : (at_end : Type 0) (place : ℕ) (bytes : List ℕ) (hs : List Header) (rest : List ℕ) (old new : Option (List ℕ)) → Reaches bytes hs rest
+pub stops_here : (at_end : Type 0) (place : ℕ) (bytes : List ℕ) (hs : List Message) (rest : List ℕ) (old new : Option (List ℕ)) → Reaches bytes hs rest
     → Appends old new (text_of hs) → StoppedAt at_end place bytes old new
 stops_here at_end place bytes hs rest old new there lines = (hs, rest, [], there, inl refl, (text_of hs, [], refl, lines))
 
 -- a read found no memory
-pub memory_ends : (stop : Stop) (limit : ℕ) (bytes : List ℕ) (hs : List Header) (rest : List ℕ) (before mid left old new : Option (List ℕ))
+pub memory_ends : (stop : Stop) (limit : ℕ) (bytes : List ℕ) (hs : List Message) (rest : List ℕ) (before mid left old new : Option (List ℕ))
     → Consumes before mid bytes → Keeps mid left → length bytes ≤ limit → Reaches bytes hs rest → Appends old new (text_of hs)
     → ShowEnds limit (Err stop) before left old new
 memory_ends stop limit bytes hs rest before mid left old new consumed kept le there lines =
     (bytes, Consumes-kept before mid left bytes consumed kept, stops_here _ _ (take limit bytes) hs rest old new (rw (take_all limit bytes le) there) lines)
 
 -- a read failed
-pub read_fault_ends : (limit : ℕ) (bytes : List ℕ) (hs : List Header) (rest : List ℕ) (before mid left old new : Option (List ℕ))
+pub read_fault_ends : (limit : ℕ) (bytes : List ℕ) (hs : List Message) (rest : List ℕ) (before mid left old new : Option (List ℕ))
     → Consumes before mid bytes → Keeps mid left → length bytes ≤ limit → Reaches bytes hs rest → IsPartial rest → Appends old new (text_of hs)
     → ShowEnds limit (Ok ReadFault) before left old new
 read_fault_ends limit bytes hs rest before mid left old new consumed kept le there partial lines =
     (bytes, Consumes-kept before mid left bytes consumed kept, (le, hs, rest, there, partial, lines))
 
 -- the end of the input came
-pub rest_ends : (how : Result Shown Stop) (limit : ℕ) (bytes : List ℕ) (hs : List Header) (rest : List ℕ) (fed : ℕ) (before mid left old now new : Option (List ℕ))
+pub rest_ends : (how : Result Shown Stop) (limit : ℕ) (bytes : List ℕ) (hs : List Message) (rest : List ℕ) (fed : ℕ) (before mid left old now new : Option (List ℕ))
     → Consumes before mid bytes → Consumes mid left [] → IsAtEnd left → length bytes ≤ limit → length bytes ≡ fed → Reaches bytes hs rest → IsPartial rest
     → Appends old now (text_of hs) → RestEnds (fed - length rest) rest how now new → ShowEnds limit how before left old new
 rest_ends (Ok Done) limit bytes hs rest fed before mid left old now new consumed none end le is there partial lines (nothing, ends) =
@@ -95,7 +95,12 @@ rest_ends (Ok Refused) limit bytes hs rest fed before mid left old now new consu
     )
 rest_ends (Ok ReadFault) limit bytes hs rest fed before mid left old now new consumed none end le is there partial lines ends = absurd ends
 rest_ends (Ok TooLong) limit bytes hs rest fed before mid left old now new consumed none end le is there partial lines ends = absurd ends
-rest_ends (Err stop) limit bytes hs rest fed before mid left old now new consumed none end le is there partial lines (some, fault, refused, front) =
+rest_ends (Err stop) limit bytes hs rest fed before mid left old now new consumed none end le is there partial lines (some, inl nothing) = (
+  bytes,
+  rw append-nil at (Consumes-trans before mid left bytes [] consumed none),
+  stops_here _ _ (take limit bytes) hs rest old new (rw (take_all limit bytes le) there) (rw append-nil at (Appends-trans old now new _ _ lines nothing)),
+)
+rest_ends (Err stop) limit bytes hs rest fed before mid left old now new consumed none end le is there partial lines (some, inr (fault, refused, front)) =
     let whole = take_all limit bytes le in
     let place : length (take limit bytes) - length rest ≡ fed - length rest = ap (λ l. length l - length rest) whole ∙ ap (λ n. n - length rest) is in (
       bytes,
@@ -116,7 +121,7 @@ next_there at_end place rest text (inr (frame, inl whole, is)) = inr (frame, inl
 next_there at_end place rest text (inr (frame, inr never, is)) = absurd never.0
 
 -- a frame of the piece was refused
-pub refused_ends : (limit : ℕ) (bytes : List ℕ) (hs : List Header) (rest piece : List ℕ) (fed : ℕ) (before mid left old now new : Option (List ℕ)) (last : List ℕ) (fault : Fault)
+pub refused_ends : (limit : ℕ) (bytes : List ℕ) (hs : List Message) (rest piece : List ℕ) (fed : ℕ) (before mid left old now new : Option (List ℕ)) (last : List ℕ) (fault : Refusal)
     → Consumes before mid bytes → Consumes mid left piece → length bytes + length piece ≤ limit → length bytes + length piece ≡ fed → Reaches bytes hs rest
     → Appends old now (text_of hs) → PieceEnds fed (rest ++ piece) last (Ok (Some fault)) now new → ShowEnds limit (Ok Refused) before left old new
 refused_ends limit bytes hs rest piece fed before mid left old now new last fault consumed more le count there lines (ks, after, there_too, whole, is, lines_too) =
@@ -138,7 +143,7 @@ refused_ends limit bytes hs rest piece fed before mid left old now new last faul
     )
 
 -- the writing stopped within the piece
-pub stopped_ends : (stop : Stop) (limit : ℕ) (bytes : List ℕ) (hs : List Header) (rest piece : List ℕ) (fed : ℕ) (before mid left old now new : Option (List ℕ)) (last : List ℕ)
+pub stopped_ends : (stop : Stop) (limit : ℕ) (bytes : List ℕ) (hs : List Message) (rest piece : List ℕ) (fed : ℕ) (before mid left old now new : Option (List ℕ)) (last : List ℕ)
     → Consumes before mid bytes → Consumes mid left piece → length bytes + length piece ≤ limit → length bytes + length piece ≡ fed → Reaches bytes hs rest
     → Appends old now (text_of hs) → PieceEnds fed (rest ++ piece) last (Err stop) now new → ShowEnds limit (Err stop) before left old new
 stopped_ends stop limit bytes hs rest piece fed before mid left old now new last consumed more le count there lines (ks, after, text, there_too, next, lines_too) =
@@ -158,7 +163,7 @@ stopped_ends stop limit bytes hs rest piece fed before mid left old now new last
     )
 
 -- a piece came past the limit
-pub too_long_ends : (limit : ℕ) (bytes : List ℕ) (hs : List Header) (rest piece : List ℕ) (before mid left old new : Option (List ℕ))
+pub too_long_ends : (limit : ℕ) (bytes : List ℕ) (hs : List Message) (rest piece : List ℕ) (before mid left old new : Option (List ℕ))
     → Consumes before mid bytes → Consumes mid left piece → length bytes ≡ limit → length piece ≡ 1 → Reaches bytes hs rest → IsPartial rest
     → Appends old new (text_of hs) → ShowEnds limit (Ok TooLong) before left old new
 too_long_ends limit bytes hs rest piece before mid left old new consumed more is one there partial lines =

@@ -6,35 +6,37 @@ use Rattle.std.proofs.lemmas.Grind.{flat_map-append}
 use Rattle.std.proofs.lemmas.Bool.{cases_lt}
 use Rattle.std.proofs.Math.Seq.{take-append-add}
 use Rattle.std.specs.List.{AllByRecursion}
-use Rattle.fc_wire.specs.declared.header.Header.{Header}
+use Rattle.fc_msg.specs.declared.message.Message.{Message}
 use Rattle.fc_wire.specs.Frames.{frame_len, IsFrame, IsPartial, joined, Frames}
 use Rattle.fc_wire.proofs.Cutting.{cut_once, cut_exists, cut_frame}
-use Rattle.fc_tool.specs.declared.faults.Fault.{Fault}
+use Rattle.fc_msg.specs.declared.fault.Refusal.{Refusal}
 use Rattle.fc_tool.specs.declared.show.Shown.{Shown}
 use Rattle.fc_tool.specs.declared.show.Shown.TheVariants.{Done, ReadFault, Refused, TooLong}
-use Rattle.fc_tool.specs.Faults.{IsHeartbeat, fault_of}
-use Rattle.fc_tool.specs.Show.{IsVerdict, AreHeartbeats, Reaches, ShowEnds}
-use Rattle.fc_tool.proofs.Judged.{sound}
+use Rattle.fc_msg.specs.Faults.{fault_of}
+use Rattle.fc_msg.specs.Messages.{Spells}
+use Rattle.fc_tool.specs.Show.{IsVerdict, AreMessages, Reaches, ShowEnds}
+use Rattle.fc_msg.proofs.Reading.{never_both}
+use Rattle.fc_tool.proofs.Judged.{is_frame}
 
-are_frames : (hs : List Header) (frames : List (List ℕ)) → AreHeartbeats hs frames → AllByRecursion IsFrame frames
+are_frames : (hs : List Message) (frames : List (List ℕ)) → AreMessages hs frames → AllByRecursion IsFrame frames
 are_frames [] [] all = tt
 are_frames [] (f ∷ fs) all = absurd all
 are_frames (h ∷ hs) [] all = absurd all
-are_frames (h ∷ hs) (f ∷ fs) all = (all.0.whole, are_frames hs fs all.1)
+are_frames (h ∷ hs) (f ∷ fs) all = (is_frame h f all.0, are_frames hs fs all.1)
 
 both_frames : (frames others : List (List ℕ)) → AllByRecursion IsFrame frames → AllByRecursion IsFrame others → AllByRecursion IsFrame (frames ++ others)
 both_frames [] others all more = more
 both_frames (f ∷ fs) others all more = (all.0, both_frames fs others all.1 more)
 
--- one of the frames is a heartbeat
-one_of : (hs : List Header) (front : List (List ℕ)) (frame : List ℕ) (back : List (List ℕ)) → AreHeartbeats hs (front ++ frame ∷ back) → (h : Header) × IsHeartbeat h frame
+-- one of the frames is a message
+one_of : (hs : List Message) (front : List (List ℕ)) (frame : List ℕ) (back : List (List ℕ)) → AreMessages hs (front ++ frame ∷ back) → (h : Message) × Spells h frame
 one_of [] [] frame back all = absurd all
 one_of [] (f ∷ fs) frame back all = absurd all
 one_of (h ∷ hs) [] frame back all = (h, all.0)
 one_of (h ∷ hs) (f ∷ fs) frame back all = one_of hs fs frame back all.1
 
--- bytes that are heartbeats and less than a frame have no whole frame that is refused
-no_refusal : (bytes more : List ℕ) (hs ks : List Header) (rest last : List ℕ) (fault : Fault) → Reaches bytes hs rest → frame_len rest ≤ length rest
+-- bytes that are messages and less than a frame have no whole frame that is refused
+no_refusal : (bytes more : List ℕ) (hs ks : List Message) (rest last : List ℕ) (fault : Refusal) → Reaches bytes hs rest → frame_len rest ≤ length rest
     → fault_of (take (frame_len rest) rest) ≡ Some fault → Reaches (bytes ++ more) ks last → IsPartial last → ⊥
 no_refusal bytes more hs ks rest last fault there le refused whole partial =
     let n = frame_len rest in
@@ -56,7 +58,7 @@ no_refusal bytes more hs ks rest last fault there le refused whole partial =
     } in
     let same = cut_once (bytes ++ more) (there.frames ++ frame ∷ cut.0) whole.frames cut.1 last one two in
     let beat = one_of ks there.frames frame cut.0 (rw (← same.0) at whole.each) in
-    cc (sound beat.0 frame beat.1, refused)
+    never_both frame beat.0 fault beat.1 refused
 
 -- ---- what was read of known bytes
 

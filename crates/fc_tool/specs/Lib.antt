@@ -1,7 +1,6 @@
 pub mod Acting
 pub mod ElementNode
 pub mod ElementRun
-pub mod Faults
 pub mod Lending
 pub mod Nexts
 pub mod Pieces

@@ -4,38 +4,40 @@ use Rattle.std.specs.List.{flat_map}
 use Rattle.std.specs.Io.KnownBytes.{Appends, Consumes, IsAtEnd}
 use Rattle.fc_base.specs.Causes.{Rose}
 use Rattle.fc_base.specs.Content.{AppendsFront}
-use Rattle.fc_wire.specs.declared.header.Header.{Header}
 use Rattle.fc_wire.specs.Frames.{joined, IsPartial, frame_len}
-use Rattle.fc_tool.specs.declared.faults.Fault.{Fault}
+use Rattle.fc_msg.specs.Faults.{fault_of}
+use Rattle.fc_msg.specs.Messages.{Spells}
+use Rattle.fc_msg.specs.declared.fault.Refusal.{Refusal}
+use Rattle.fc_msg.specs.declared.message.Message.{Message}
+use Rattle.fc_text.specs.Text.{message_text}
 use Rattle.fc_tool.specs.declared.show.Shown.{Shown}
 use Rattle.fc_tool.specs.declared.show.Shown.TheVariants.{Done, ReadFault, Refused, TooLong}
 use Rattle.fc_tool.specs.declared.stops.Stop.{Stop}
-use Rattle.fc_tool.specs.Faults.{IsHeartbeat, fault_of}
 use Rattle.fc_tool.specs.Stops.{stop_status}
-use Rattle.fc_tool.specs.Text.{heartbeat_text, refusal_text}
+use Rattle.fc_tool.specs.Text.{refusal_text}
 
--- each frame is a heartbeat
-abbrev pub AreHeartbeats : List Header → List (List ℕ) → Type 0
-AreHeartbeats [] [] = ⊤
-AreHeartbeats (h ∷ hs) (frame ∷ frames) = IsHeartbeat h frame × AreHeartbeats hs frames
-AreHeartbeats [] (frame ∷ frames) = ⊥
-AreHeartbeats (h ∷ hs) [] = ⊥
+-- each frame spells the message
+abbrev pub AreMessages : List Message → List (List ℕ) → Type 0
+AreMessages [] [] = ⊤
+AreMessages (m ∷ ms) (frame ∷ frames) = Spells m frame × AreMessages ms frames
+AreMessages [] (frame ∷ frames) = ⊥
+AreMessages (m ∷ ms) [] = ⊥
 
--- the bytes are these heartbeats, and then the rest
-pub record Reaches (bytes : List ℕ) (hs : List Header) (rest : List ℕ) : Type 0 where
+-- the bytes spell these messages, and then comes the rest
+pub record Reaches (bytes : List ℕ) (ms : List Message) (rest : List ℕ) : Type 0 where
   pub frames : List (List ℕ)
   pub whole : bytes ≡ joined frames ++ rest
-  pub each : AreHeartbeats hs frames
+  pub each : AreMessages ms frames
 
--- the lines of the heartbeats
-abbrev pub text_of : List Header → List ℕ
-text_of hs = flat_map heartbeat_text hs
+-- the texts of the messages
+abbrev pub text_of : List Message → List ℕ
+text_of ms = flat_map message_text ms
 
 -- what is written of a frame, or of a rest, that stands at a place of the input
 abbrev pub IsTextOf : ℕ → List ℕ → List ℕ → Type 0
 IsTextOf place frame text =
-    ((h : Header) × IsHeartbeat h frame × (text ≡ heartbeat_text h))
-    ⊎ ((fault : Fault) × (fault_of frame ≡ Some fault) × (text ≡ refusal_text place fault))
+    ((m : Message) × Spells m frame × (text ≡ message_text m))
+    ⊎ ((fault : Refusal) × (fault_of frame ≡ Some fault) × (text ≡ refusal_text place fault))
 
 -- the next bytes that are looked at: a whole frame, or at the end of the input all that is left
 abbrev pub IsNext : Type 0 → List ℕ → List ℕ → Type 0
@@ -48,50 +50,50 @@ abbrev pub IsNextText : Type 0 → ℕ → List ℕ → List ℕ → Type 0
 IsNextText at_end place rest text =
     (text ≡ []) ⊎ ((frame : List ℕ) × IsNext at_end rest frame × IsTextOf place frame text)
 
--- The writing stopped: lines of the heartbeats at the front of the bytes, which end at a place of the input, and a front
+-- The writing stopped: texts of the messages at the front of the bytes, which end at a place of the input, and a front
 -- of what comes next.
 abbrev pub StoppedAt : Type 0 → ℕ → List ℕ → Option (List ℕ) → Option (List ℕ) → Type 0
 StoppedAt at_end fed bytes old new =
-    (hs : List Header) × (rest : List ℕ) × (text : List ℕ) × Reaches bytes hs rest
-    × IsNextText at_end (fed - length rest) rest text × AppendsFront old new (text_of hs ++ text)
+    (ms : List Message) × (rest : List ℕ) × (text : List ℕ) × Reaches bytes ms rest
+    × IsNextText at_end (fed - length rest) rest text × AppendsFront old new (text_of ms ++ text)
 
 -- The whole frames at the front of the bytes, which end at a place of the input, were shown up to the first that is
 -- refused; so many bytes are left where none is.
-abbrev pub PieceEnds : ℕ → List ℕ → List ℕ → Result (Option Fault) Stop → Option (List ℕ) → Option (List ℕ) → Type 0
+abbrev pub PieceEnds : ℕ → List ℕ → List ℕ → Result (Option Refusal) Stop → Option (List ℕ) → Option (List ℕ) → Type 0
 PieceEnds fed bytes left (Ok None) old new =
-    (hs : List Header) × Reaches bytes hs left × IsPartial left × Appends old new (text_of hs)
+    (ms : List Message) × Reaches bytes ms left × IsPartial left × Appends old new (text_of ms)
 PieceEnds fed bytes left (Ok (Some fault)) old new =
-    (hs : List Header) × (rest : List ℕ) × Reaches bytes hs rest × (frame_len rest ≤ length rest)
-    × (fault_of (take (frame_len rest) rest) ≡ Some fault) × Appends old new (text_of hs ++ refusal_text (fed - length rest) fault)
+    (ms : List Message) × (rest : List ℕ) × Reaches bytes ms rest × (frame_len rest ≤ length rest)
+    × (fault_of (take (frame_len rest) rest) ≡ Some fault) × Appends old new (text_of ms ++ refusal_text (fed - length rest) fault)
 PieceEnds fed bytes left (Err stop) old new = StoppedAt ⊥ fed bytes old new
 
 -- What was left at the end of the input, at a place of it, was refused where it was something.
 abbrev pub RestEnds : ℕ → List ℕ → Result Shown Stop → Option (List ℕ) → Option (List ℕ) → Type 0
 RestEnds place rest (Ok Done) old new = (rest ≡ []) × Appends old new []
 RestEnds place rest (Ok Refused) old new =
-    (rest ≢ []) × (fault : Fault) × (fault_of rest ≡ Some fault) × Appends old new (refusal_text place fault)
+    (rest ≢ []) × (fault : Refusal) × (fault_of rest ≡ Some fault) × Appends old new (refusal_text place fault)
 RestEnds place rest (Ok ReadFault) old new = ⊥
 RestEnds place rest (Ok TooLong) old new = ⊥
 RestEnds place rest (Err stop) old new =
-    (rest ≢ []) × (fault : Fault) × (fault_of rest ≡ Some fault) × AppendsFront old new (refusal_text place fault)
+    (rest ≢ []) × (Appends old new [] ⊎ ((fault : Refusal) × (fault_of rest ≡ Some fault) × AppendsFront old new (refusal_text place fault)))
 
 -- Where `show` ends so, these bytes were read, of which at most so many are looked at, and that was written.
 -- `left` is what the source has left.
 abbrev pub Ends : ℕ → Shown → List ℕ → Option (List ℕ) → Option (List ℕ) → Option (List ℕ) → Type 0
--- the input is heartbeats, and no more
+-- the input is messages, and no more
 Ends limit Done bytes left old new =
-    IsAtEnd left × (length bytes ≤ limit) × (hs : List Header) × Reaches bytes hs [] × Appends old new (text_of hs)
--- what was read is heartbeats and less than a frame
+    IsAtEnd left × (length bytes ≤ limit) × (ms : List Message) × Reaches bytes ms [] × Appends old new (text_of ms)
+-- what was read is messages and less than a frame
 Ends limit ReadFault bytes left old new =
-    (length bytes ≤ limit) × (hs : List Header) × (rest : List ℕ) × Reaches bytes hs rest × IsPartial rest × Appends old new (text_of hs)
--- the first bytes that no heartbeat is
+    (length bytes ≤ limit) × (ms : List Message) × (rest : List ℕ) × Reaches bytes ms rest × IsPartial rest × Appends old new (text_of ms)
+-- the first bytes that spell no message
 Ends limit Refused bytes left old new =
-    (hs : List Header) × (rest : List ℕ) × (frame : List ℕ) × (fault : Fault) × Reaches (take limit bytes) hs rest
+    (ms : List Message) × (rest : List ℕ) × (frame : List ℕ) × (fault : Refusal) × Reaches (take limit bytes) ms rest
     × IsNext (IsAtEnd left × (length bytes ≤ limit)) rest frame × (fault_of frame ≡ Some fault)
-    × Appends old new (text_of hs ++ refusal_text (length (take limit bytes) - length rest) fault)
--- one byte more came than is looked at, and what is looked at is heartbeats and less than a frame
+    × Appends old new (text_of ms ++ refusal_text (length (take limit bytes) - length rest) fault)
+-- one byte more came than is looked at, and what is looked at is messages and less than a frame
 Ends limit TooLong bytes left old new =
-    (length bytes ≡ limit + 1) × (hs : List Header) × (rest : List ℕ) × Reaches (take limit bytes) hs rest × IsPartial rest × Appends old new (text_of hs)
+    (length bytes ≡ limit + 1) × (ms : List Message) × (rest : List ℕ) × Reaches (take limit bytes) ms rest × IsPartial rest × Appends old new (text_of ms)
 
 -- the same, where the writing may have stopped
 abbrev pub EndsSo : ℕ → Result Shown Stop → List ℕ → Option (List ℕ) → Option (List ℕ) → Option (List ℕ) → Type 0

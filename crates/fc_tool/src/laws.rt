@@ -1,10 +1,13 @@
 // Laws of frames, of what is written of them, and of how the input ends.
-ghost use Rattle.std.specs.Prelude.{◌≡◌, ◌≤◌, ◌⊎◌, List, ℕ, Option, Some, Ok, ◌∷◌, ◌++◌, length};
+ghost use Rattle.std.specs.Prelude.{◌≡◌, ◌⊎◌, List, ℕ, Option, Some, Ok, ◌∷◌, ◌++◌};
 ghost use Rattle.std.specs.List.{AllByRecursion};
-ghost use Rattle.fc_wire.specs.declared.header.Header.{Header};
-ghost use Rattle.fc_wire.specs.Frames.{Frames, IsFrame, IsPartial, frame_len, joined};
+ghost use Rattle.fc_wire.specs.Bytes.{AreBytes};
+ghost use Rattle.fc_wire.specs.Frames.{Frames, IsFrame, IsPartial, joined};
 ghost use Rattle.fc_tool.specs.declared.element.ElementEnd.{ElementEnd};
-ghost use Rattle.fc_tool.specs.declared.faults.Fault.{Fault};
+ghost use Rattle.fc_msg.specs.Faults.{fault_of};
+ghost use Rattle.fc_msg.specs.Messages.{Spells};
+ghost use Rattle.fc_msg.specs.declared.fault.Refusal.{Refusal};
+ghost use Rattle.fc_msg.specs.declared.message.Message.{Message};
 ghost use Rattle.fc_tool.specs.declared.show.Shown.{Shown};
 ghost use Rattle.fc_hub.specs.Hubs.{Held};
 ghost use Rattle.fc_hub.specs.declared.event.HubEvent.{HubEvent};
@@ -13,15 +16,14 @@ ghost use Rattle.fc_tool.specs.ElementRun.{ElementEnds, IsOutcome};
 ghost use Rattle.fc_tool.specs.ElementNode.{NodeState, first_node, frames, node_after, node_step, rest};
 ghost use Rattle.fc_tool.specs.Pieces.{AreAlike, MakeTheSame};
 ghost use Rattle.fc_tool.specs.Places.{AreDistinct};
-ghost use Rattle.fc_tool.specs.Faults.{IsHeartbeat, fault_of};
-ghost use Rattle.fc_tool.specs.Show.{AreHeartbeats, IsVerdict, ShowEnds, text_of};
+ghost use Rattle.fc_tool.specs.Show.{AreMessages, IsVerdict, ShowEnds, text_of};
 ghost use Rattle.fc_tool.specs.Splitting.{Call, after_calls, fed, unfed};
 
-/// Bytes that are a frame, or less, are a heartbeat or have exactly one fault, and never both.
+/// Bytes spell a message or have exactly one fault, and never both; what spells one is a frame.
 pub fn frame_is_judged_once()
-    ensures either { (bytes : List ℕ) → length bytes ≤ frame_len bytes →
-        ((h : Header) × IsHeartbeat h bytes) ⊎ ((fault : Fault) × (fault_of bytes ≡ Some fault)) }
-    ensures never_both { (bytes : List ℕ) (h : Header) (fault : Fault) → IsHeartbeat h bytes → fault_of bytes ≡ Some fault → ⊥ }
+    ensures either { (bytes : List ℕ) → AreBytes bytes → ((m : Message) × Spells m bytes) ⊎ ((fault : Refusal) × (fault_of bytes ≡ Some fault)) }
+    ensures never_both { (bytes : List ℕ) (m : Message) (fault : Refusal) → Spells m bytes → fault_of bytes ≡ Some fault → ⊥ }
+    ensures frame { (bytes : List ℕ) (m : Message) → Spells m bytes → IsFrame bytes }
 {}
 
 /// Whatever pieces a stream is fed in, and whenever frames are asked for: what was taken are the first frames of the
@@ -33,9 +35,9 @@ pub fn any_pieces()
         Frames (fed calls) (after_calls unfed calls).taken (after_calls unfed calls).rest }
 {}
 
-/// Heartbeats of the same frames have the same lines.
+/// Messages of the same frames have the same texts.
 pub fn text_is_unique()
-    ensures { (hs ks : List Header) (frames : List (List ℕ)) → AreHeartbeats hs frames → AreHeartbeats ks frames → text_of hs ≡ text_of ks }
+    ensures { (ms ns : List Message) (frames : List (List ℕ)) → AreMessages ms frames → AreMessages ns frames → text_of ms ≡ text_of ns }
 {}
 
 /// A known input has one ending of those that tell what it is: it is messages, a frame of it is none, or it is too long.

@@ -5,7 +5,6 @@ mod acting;
 mod command;
 mod delivery;
 mod element;
-mod faults;
 mod frames;
 mod giving;
 mod input;
@@ -23,7 +22,6 @@ mod tests;
 
 pub use command::run;
 pub use element::ElementEnd;
-pub use faults::{Fault, Reason};
 pub use laws::{
     any_pieces, bytes_may_be_cut, element_ends_once, frame_is_judged_once, input_ends_once,
     node_takes_the_frames, peers_are_distinct, text_is_unique,

@@ -1,16 +1,16 @@
-// Reads frames and writes a line for each.
+// Reads frames and writes the text of each.
 ghost use Rattle.std.specs.Prelude.{◌≡◌, ◌≢◌, ◌≤◌, ◌<◌, ◌^◌, ◌++◌, ◌+◌, ◌-◌, is_ok, if◌then◌else◌, None, length, IfOk};
 ghost use Rattle.fc_wire.specs.Frames.{IsPartial};
 ghost use Rattle.fc_tool.specs.Show.{PieceEnds, RestEnds, ShowEnds, SourceCount};
 ghost use Rattle.fc_tool.specs.Stops.{FlushedAt, SinkCount};
 
-use crate::faults::{Fault, heartbeat};
 use crate::frames::push_frames;
 use crate::input::{LIMIT, READS, next_piece};
 use crate::line::refusal_line;
 use crate::splitter::Splitter;
 use crate::stops::{Stop, finish, put};
 use fc_base::{Memory, Sink, Source, Trouble};
+use fc_msg::{MsgFault, Refusal, decode};
 use std::alloc::Global;
 
 /// How `show` ended, where all was written.
@@ -84,7 +84,7 @@ fn show_piece<K: Sink>(
     text: &mut Vec<u8>,
     fed: usize,
     out: &mut K,
-) -> Result<Option<Fault>, Stop>
+) -> Result<Option<Refusal>, Stop>
     requires room { fed < 2 ^ 62 }
     requires fed { length splitter.old ≤ fed }
     ensures ends { PieceEnds fed splitter.old splitter.new result (K.written out.old) (K.written out.new) }
@@ -93,7 +93,7 @@ fn show_piece<K: Sink>(
     ensures count { SinkCount result (K.faults out.old) (K.faults out.new) }
 {
     text.clear();
-    let cut = push_frames(splitter.rest(), text)?;
+    let cut = push_frames(alloc, splitter.rest(), text)?;
     match cut.refused {
         None => {
             put(out, text.as_slice())?;
@@ -130,10 +130,13 @@ fn show_rest<K: Sink>(alloc: Global, fed: usize, rest: &[u8], out: &mut K) -> Re
     if rest.is_empty() {
         return Ok(Shown::Done);
     }
-    let Err(fault) = heartbeat(rest) else {
-        unreachable!()
-    };
-    let line = refusal_line(alloc, fed - rest.len(), fault)?;
-    put(out, line.as_bytes())?;
-    Ok(Shown::Refused)
+    match decode(alloc, rest) {
+        Ok(_) => unreachable!(),
+        Err(MsgFault::At(fault)) => {
+            let line = refusal_line(alloc, fed - rest.len(), fault)?;
+            put(out, line.as_bytes())?;
+            Ok(Shown::Refused)
+        }
+        Err(MsgFault::Memory) => Err(Stop::NoMemory),
+    }
 }

@@ -80,6 +80,35 @@ fn a_heartbeat_is_shown_in_whatever_pieces_it_comes(rt: HostRuntime) -> Result<(
     Ok(())
 }
 
+// A query of component 7 of the first LFB, and its answer.
+const QUERY: [u8; 112] = [
+    0x10, 0x04, 0, 0x0d, 0x40, 0, 0, 1, 0, 0, 0, 2, 0, 0, 0, 0, 0, 0, 0, 7, 0, 0, 0, 0, 0x10, 0, 0,
+    0x1c, 0, 0, 0, 1, 0, 0, 0, 1, 0, 7, 0, 0x10, 1, 0x10, 0, 0x0c, 0, 0, 0, 1, 0, 0, 0, 7, 0x10,
+    0x14, 0, 0x0f, 0, 0, 0, 2, 0x40, 0, 0, 1, 0, 0, 0, 0, 0, 0, 0, 7, 0, 0, 0, 0, 0x10, 0, 0, 0x24,
+    0, 0, 0, 1, 0, 0, 0, 1, 0, 9, 0, 0x18, 1, 0x10, 0, 0x14, 0, 0, 0, 1, 0, 0, 0, 7, 1, 0x12, 0, 5,
+    2, 0, 0, 0,
+];
+
+const QUERY_TEXT: &str =
+    "Query from=40000001 to=00000002 corr=0000000000000007 flags=00000000\n  lfb 00000001 00000001\n    GET\n      path 7\nQueryResponse from=00000002 to=40000001 corr=0000000000000007 flags=00000000\n  lfb 00000001 00000001\n    GET-RESPONSE\n      path 7\n        full 02\n";
+
+#[test]
+fn a_query_and_its_answer_are_shown_in_whatever_pieces_they_come(
+    rt: HostRuntime,
+) -> Result<(), Fail> {
+    let alloc = rt.alloc();
+    for piece in [1, 7, 51, 52, 53, 111, 4096] {
+        let (status, text) = shown(alloc, Vec::from_slice(alloc, &QUERY)?, piece)?;
+        assert_eq!(rt; status, 0, "in pieces of {piece}");
+        assert_eq!(rt;
+            text.as_slice(),
+            QUERY_TEXT.as_bytes(),
+            "in pieces of {piece}"
+        );
+    }
+    Ok(())
+}
+
 #[test]
 fn every_field_is_shown(rt: HostRuntime) -> Result<(), Fail> {
     let alloc = rt.alloc();
@@ -148,8 +177,10 @@ fn the_first_refusal_is_written_with_its_place(rt: HostRuntime) -> Result<(), Fa
     for (at, byte, line) in [
         (0usize, 0x20, "refused 24 version\n"),
         (3, 5, "refused 26 short-length\n"),
-        (1, 1, "refused 25 not-built\n"),
-        (3, 7, "refused 25 not-built\n"),
+        (1, 6, "refused 25 not-built\n"),
+        (1, 7, "refused 25 unknown-type\n"),
+        (1, 3, "refused 48 wrong-body\n"),
+        (3, 7, "refused 48 tlv-past\n"),
         (2, 1, "refused 24 truncated\n"),
     ] {
         let mut bytes = beats(alloc, 3)?;

@@ -1,13 +1,13 @@
 use Rattle.std.proofs.Common.{◌≡◌, ◌≤◌, ◌<◌, List, ℕ, length}
 use Rattle.std.specs.Io.KnownBytes.{Appends, Consumes}
-use Rattle.fc_wire.specs.declared.header.Header.{Header}
+use Rattle.fc_msg.specs.declared.message.Message.{Message}
 use Rattle.fc_wire.specs.Frames.{IsPartial}
 use Rattle.fc_tool.specs.Show.{Reaches, text_of}
 use Rattle.fc_tool.proofs.show.show_all.Given as goal
 
 abbrev pub invariant-reads : goal.invariant-reads
 invariant-reads g l = record {
-  shown : (bytes : List ℕ) × (hs : List Header) × Consumes (g.S.Source.left l.fn.input) (g.S.Source.left l.input) bytes
+  shown : (bytes : List ℕ) × (hs : List Message) × Consumes (g.S.Source.left l.fn.input) (g.S.Source.left l.input) bytes
       × (length bytes ≡ l.count) × Reaches bytes hs l.splitter
       × Appends (g.K.Sink.written l.fn.out) (g.K.Sink.written l.out) (text_of hs);
   partial : IsPartial l.splitter;

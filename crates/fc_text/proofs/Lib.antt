@@ -1,0 +1,4 @@
+pub mod Decimals
+pub mod Flattening
+pub mod Indents
+pub mod Octets

@@ -1,0 +1,12 @@
+use Rattle.std.proofs.Common.{◌≡◌, ◌++◌, length, drop}
+use Rattle.fc_text.specs.Text.{hex_text}
+use Rattle.fc_text.proofs.hexes.push_hex.Given as goal
+
+abbrev pub invariant-eights : goal.invariant-eights
+invariant-eights l = l.into.items ++ hex_text l.rest ≡ l.fn.into.items ++ hex_text l.bytes
+
+abbrev pub decreases-eights : goal.decreases-eights
+decreases-eights l = length l.rest
+
+abbrev pub invariant-bytes : goal.invariant-bytes
+invariant-bytes l = l.into.items ++ hex_text (drop l.byte-index l.byte-items) ≡ l.fn.into.items ++ hex_text l.bytes

@@ -1,0 +1,11 @@
+//! Messages as text (this profile's own): what `show` prints.
+#![tactic(auto)]
+
+mod decimal;
+mod hexes;
+mod message;
+mod names;
+#[cfg(test)]
+mod tests;
+
+pub use message::show;

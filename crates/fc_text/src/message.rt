@@ -1,0 +1,329 @@
+// Messages to text.
+ghost use Rattle.std.specs.Prelude.{◌≡◌, ◌++◌, ◌+◌, OnOk, IfOk};
+ghost use Rattle.std.specs.List.{flat_map};
+ghost use Rattle.fc_text.specs.Text.{body_text, code_text, content_text, fields_text, full_text, head_text, id_text, ilv_text, indent, key_text, message_text, number_text, oper_line, oper_text, path_line, path_text, response_text, select_line, select_text, selects_text, sparse_text};
+
+use crate::decimal::push_decimal;
+use crate::hexes::{push_word, two_digits};
+use crate::names::{message_name, operation_name};
+use fc_base::{Code, Memory, eight_digits, sixteen_digits};
+use fc_msg::{Message, MsgBody};
+use fc_path::{Body, Key, Oper, PathData, Select};
+use fc_wire::Ilv;
+
+/// Appends the text of the message: a line with its type, sender, addressee, correlator and flags, whose free bits are
+/// zero, and the lines of its body, each level of which is indented by two spaces more. After an `Err` some of the text
+/// may stand there.
+#[tactic(auto, unfolding(crate::specs::Text::message_text))]
+pub fn show(message: &Message, into: &mut Vec<u8>) -> Result<(), Memory>
+    ensures { OnOk result (into.new.items ≡ into.old.items ++ message_text message.now) }
+{
+    push_head(into, message)?;
+    push_content(into, &message.body)
+}
+
+// The line of the header.
+#[tactic(auto, unfolding(crate::specs::Text::head_text))]
+fn push_head(into: &mut Vec<u8>, message: &Message) -> Result<(), Memory>
+    ensures { OnOk result (into.new.items ≡ into.old.items ++ head_text message.now) }
+{
+    into.extend_from_slice(message_name(&message.body).as_bytes())?;
+    into.extend_from_slice(&fields(message))?;
+    Ok(())
+}
+
+// What stands in that line behind the name.
+#[inline(always)]
+fn fields(message: &Message) -> [u8; 64]
+    ensures { result ≡ fields_text message.now }
+{
+    let source = eight_digits(message.source);
+    let dest = eight_digits(message.dest);
+    let corr = sixteen_digits(message.corr);
+    let flags = eight_digits(message.flags.word());
+    [
+        b' ', b'f', b'r', b'o', b'm', b'=', source[0], source[1], source[2], source[3], source[4],
+        source[5], source[6], source[7], b' ', b't', b'o', b'=', dest[0], dest[1], dest[2],
+        dest[3], dest[4], dest[5], dest[6], dest[7], b' ', b'c', b'o', b'r', b'r', b'=', corr[0],
+        corr[1], corr[2], corr[3], corr[4], corr[5], corr[6], corr[7], corr[8], corr[9], corr[10],
+        corr[11], corr[12], corr[13], corr[14], corr[15], b' ', b'f', b'l', b'a', b'g', b's', b'=',
+        flags[0], flags[1], flags[2], flags[3], flags[4], flags[5], flags[6], flags[7], b'\n',
+    ]
+}
+
+// The lines of a body.
+fn push_content(into: &mut Vec<u8>, body: &MsgBody) -> Result<(), Memory>
+    ensures { OnOk result (into.new.items ≡ into.old.items ++ content_text body.now) }
+{
+    match body {
+        MsgBody::Setup(selects) => push_selects(into, selects.as_slice()),
+        MsgBody::SetupResponse(result) => push_number(into, b"  result ", *result),
+        MsgBody::Teardown(reason) => push_number(into, b"  reason ", *reason),
+        MsgBody::Config(selects) => push_selects(into, selects.as_slice()),
+        MsgBody::ConfigResponse(selects) => push_selects(into, selects.as_slice()),
+        MsgBody::Query(selects) => push_selects(into, selects.as_slice()),
+        MsgBody::QueryResponse(selects) => push_selects(into, selects.as_slice()),
+        MsgBody::Event(selects) => push_selects(into, selects.as_slice()),
+        MsgBody::Heartbeat => Ok(()),
+    }
+}
+
+// A line with a number.
+fn push_number(into: &mut Vec<u8>, name: &[u8], number: u32) -> Result<(), Memory>
+    ensures { OnOk result (into.new.items ≡ into.old.items ++ number_text name.now number) }
+{
+    into.extend_from_slice(name)?;
+    push_decimal(into, number)?;
+    into.push(b'\n')?;
+    Ok(())
+}
+
+fn push_selects(into: &mut Vec<u8>, selects: &[Select]) -> Result<(), Memory>
+    ensures { OnOk result (into.new.items ≡ into.old.items ++ selects_text selects.now) }
+{
+    for select in selects {
+        push_select(into, select)?;
+    }
+    Ok(())
+}
+
+fn push_select(into: &mut Vec<u8>, select: &Select) -> Result<(), Memory>
+    ensures { OnOk result (into.new.items ≡ into.old.items ++ select_text select.now) }
+{
+    push_select_line(into, select.class, select.instance)?;
+    push_opers(into, select.opers.as_slice())
+}
+
+fn push_select_line(into: &mut Vec<u8>, class: u32, instance: u32) -> Result<(), Memory>
+    ensures { OnOk result (into.new.items ≡ into.old.items ++ select_line class instance) }
+{
+    into.extend_from_slice(&names(class, instance))?;
+    Ok(())
+}
+
+// The line of an LFBselect.
+#[inline(always)]
+fn names(class: u32, instance: u32) -> [u8; 24]
+    ensures { result ≡ select_line class instance }
+{
+    let class = eight_digits(class);
+    let instance = eight_digits(instance);
+    [
+        b' ',
+        b' ',
+        b'l',
+        b'f',
+        b'b',
+        b' ',
+        class[0],
+        class[1],
+        class[2],
+        class[3],
+        class[4],
+        class[5],
+        class[6],
+        class[7],
+        b' ',
+        instance[0],
+        instance[1],
+        instance[2],
+        instance[3],
+        instance[4],
+        instance[5],
+        instance[6],
+        instance[7],
+        b'\n',
+    ]
+}
+
+fn push_opers(into: &mut Vec<u8>, opers: &[Oper]) -> Result<(), Memory>
+    ensures { OnOk result (into.new.items ≡ into.old.items ++ flat_map oper_text opers.now) }
+{
+    for oper in opers {
+        push_oper(into, oper)?;
+    }
+    Ok(())
+}
+
+fn push_oper(into: &mut Vec<u8>, oper: &Oper) -> Result<(), Memory>
+    ensures { OnOk result (into.new.items ≡ into.old.items ++ oper_text oper.now) }
+{
+    match oper {
+        Oper::Paths(kind, paths) => {
+            push_line(into, operation_name(*kind).as_bytes())?;
+            push_paths(into, 3, paths.as_slice())
+        }
+        Oper::Commit => push_line(into, b"COMMIT"),
+        Oper::Trcomp => push_line(into, b"TRCOMP"),
+        Oper::CommitResponse(code) => push_response(into, *code),
+    }
+}
+
+// The lines of a COMMIT-RESPONSE.
+fn push_response(into: &mut Vec<u8>, code: Code) -> Result<(), Memory>
+    ensures { OnOk result (into.new.items ≡ into.old.items ++ response_text code) }
+{
+    push_line(into, b"COMMIT-RESPONSE")?;
+    push_code(into, 3, code)?;
+    Ok(())
+}
+
+// The line of an operation.
+#[tactic(auto, unfolding(crate::specs::Text::oper_line))]
+fn push_line(into: &mut Vec<u8>, name: &[u8]) -> Result<(), Memory>
+    ensures { OnOk result (into.new.items ≡ into.old.items ++ oper_line name.now) }
+{
+    into.extend_from_slice(b"    ")?;
+    into.extend_from_slice(name)?;
+    into.push(b'\n')?;
+    Ok(())
+}
+
+// Two spaces for each level.
+fn push_indent(into: &mut Vec<u8>, level: usize) -> Result<(), Memory>
+    ensures { OnOk result (into.new.items ≡ into.old.items ++ indent level) }
+{
+    for _ in 0..level {
+        into.extend_from_slice(b"  ")?;
+    }
+    Ok(())
+}
+
+// The line of a code.
+#[tactic(auto, unfolding(crate::specs::Text::code_text))]
+fn push_code(into: &mut Vec<u8>, level: usize, code: Code) -> Result<(), Memory>
+    ensures { OnOk result (into.new.items ≡ into.old.items ++ code_text level code) }
+{
+    push_indent(into, level)?;
+    into.extend_from_slice(b"code ")?;
+    into.extend_from_slice(&two_digits(code.0))?;
+    into.push(b'\n')?;
+    Ok(())
+}
+
+// The level below. There is no memory for so many that they can't be counted.
+fn below(level: usize) -> Result<usize, Memory>
+    ensures { IfOk result (λ n. n ≡ level + 1) }
+{
+    match level.checked_add(1) {
+        Some(level) => Ok(level),
+        None => Err(Memory),
+    }
+}
+
+#[cycle(show)]
+fn push_paths(into: &mut Vec<u8>, level: usize, paths: &[PathData]) -> Result<(), Memory>
+    ensures { OnOk result (into.new.items ≡ into.old.items ++ flat_map (λ path. path_text path level) paths.now) }
+{
+    for path in paths {
+        push_path(into, level, path)?;
+    }
+    Ok(())
+}
+
+#[cycle(show)]
+fn push_path(into: &mut Vec<u8>, level: usize, path: &PathData) -> Result<(), Memory>
+    ensures { OnOk result (into.new.items ≡ into.old.items ++ path_text path.now level) }
+{
+    push_path_line(into, level, path.ids.as_slice(), &path.key)?;
+    let level = below(level)?;
+    push_body(into, level, &path.body)
+}
+
+#[cycle(show)]
+fn push_body(into: &mut Vec<u8>, level: usize, body: &Body) -> Result<(), Memory>
+    ensures { OnOk result (into.new.items ≡ into.old.items ++ body_text body.now level) }
+{
+    match body {
+        Body::Nothing => Ok(()),
+        Body::Full(value) => push_full(into, level, value.as_slice()),
+        Body::Sparse(ilvs) => push_sparse(into, level, ilvs.as_slice()),
+        Body::Outcome(code) => push_code(into, level, *code),
+        Body::Nested(paths) => push_paths(into, level, paths.as_slice()),
+    }
+}
+
+// The line of a PATH-DATA.
+#[tactic(auto, unfolding(crate::specs::Text::path_line))]
+fn push_path_line(
+    into: &mut Vec<u8>,
+    level: usize,
+    ids: &[u32],
+    key: &Option<Key>,
+) -> Result<(), Memory>
+    ensures { OnOk result (into.new.items ≡ into.old.items ++ path_line level ids.now key.now) }
+{
+    push_indent(into, level)?;
+    into.extend_from_slice(b"path")?;
+    push_ids(into, ids)?;
+    push_key(into, key)?;
+    into.push(b'\n')?;
+    Ok(())
+}
+
+fn push_ids(into: &mut Vec<u8>, ids: &[u32]) -> Result<(), Memory>
+    ensures { OnOk result (into.new.items ≡ into.old.items ++ flat_map id_text ids.now) }
+{
+    for id in ids {
+        into.push(b' ')?;
+        push_decimal(into, *id)?;
+    }
+    Ok(())
+}
+
+fn push_key(into: &mut Vec<u8>, key: &Option<Key>) -> Result<(), Memory>
+    ensures { OnOk result (into.new.items ≡ into.old.items ++ key_text key.now) }
+{
+    match key {
+        None => Ok(()),
+        Some(key) => {
+            into.extend_from_slice(b" key ")?;
+            push_decimal(into, key.ident)?;
+            into.push(b' ')?;
+            push_word(into, key.value.as_slice())
+        }
+    }
+}
+
+#[tactic(auto, unfolding(crate::specs::Text::full_text))]
+fn push_full(into: &mut Vec<u8>, level: usize, value: &[u8]) -> Result<(), Memory>
+    ensures { OnOk result (into.new.items ≡ into.old.items ++ full_text level value.now) }
+{
+    push_indent(into, level)?;
+    into.extend_from_slice(b"full ")?;
+    push_word(into, value)?;
+    into.push(b'\n')?;
+    Ok(())
+}
+
+#[tactic(auto, unfolding(crate::specs::Text::sparse_text))]
+fn push_sparse(into: &mut Vec<u8>, level: usize, ilvs: &[Ilv]) -> Result<(), Memory>
+    ensures { OnOk result (into.new.items ≡ into.old.items ++ sparse_text level ilvs.now) }
+{
+    push_indent(into, level)?;
+    into.extend_from_slice(b"sparse\n")?;
+    let level = below(level)?;
+    push_ilvs(into, level, ilvs)
+}
+
+fn push_ilvs(into: &mut Vec<u8>, level: usize, ilvs: &[Ilv]) -> Result<(), Memory>
+    ensures { OnOk result (into.new.items ≡ into.old.items ++ flat_map (ilv_text level) ilvs.now) }
+{
+    for ilv in ilvs {
+        push_ilv(into, level, ilv)?;
+    }
+    Ok(())
+}
+
+#[tactic(auto, unfolding(crate::specs::Text::ilv_text))]
+fn push_ilv(into: &mut Vec<u8>, level: usize, ilv: &Ilv) -> Result<(), Memory>
+    ensures { OnOk result (into.new.items ≡ into.old.items ++ ilv_text level ilv.now) }
+{
+    push_indent(into, level)?;
+    into.extend_from_slice(b"ilv ")?;
+    push_decimal(into, ilv.ident)?;
+    into.push(b' ')?;
+    push_word(into, ilv.value.as_slice())?;
+    into.push(b'\n')?;
+    Ok(())
+}
