@@ -216,7 +216,13 @@ fn headers_and_names_of_reasons(rt: HostRuntime) -> Result<(), Fail> {
 // Appends an LFBselect with one GET of so many IDs, which takes 24 bytes and four for each.
 fn push_get(bytes: &mut Vec<u8>, ids: u16) -> Result<(), AllocError> {
     let size = 24 + 4 * (ids % 0x3fff);
-    for (kind, len) in [(0x1000u16, size), (0, 0), (0, 0), (0x0007, size - 12), (0x0110, size - 16)] {
+    for (kind, len) in [
+        (0x1000u16, size),
+        (0, 0),
+        (0, 0),
+        (0x0007, size - 12),
+        (0x0110, size - 16),
+    ] {
         bytes.extend_from_slice(&kind.to_be_bytes())?;
         bytes.extend_from_slice(&len.to_be_bytes())?;
     }
@@ -230,7 +236,10 @@ fn push_get(bytes: &mut Vec<u8>, ids: u16) -> Result<(), AllocError> {
 fn the_longest_message_is_taken_and_a_longer_one_refused(rt: HostRuntime) -> Result<(), Fail> {
     let alloc = rt.alloc();
     let mut bytes = Vec::new(alloc);
-    push_digits(&mut bytes, "1004FFFF 40000001 00000002 00000000 00000000 00000000")?;
+    push_digits(
+        &mut bytes,
+        "1004FFFF 40000001 00000002 00000000 00000000 00000000",
+    )?;
     for ids in [16369u16, 16369, 16369, 16369, 23] {
         push_get(&mut bytes, ids)?;
     }
