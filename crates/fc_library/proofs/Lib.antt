@@ -1,0 +1,7 @@
+pub mod Chain
+pub mod Documents
+pub mod Depths
+pub mod Steps
+pub mod Least
+pub mod KeyFaults
+pub mod Judged

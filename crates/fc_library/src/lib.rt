@@ -1,0 +1,21 @@
+//! Libraries of classes as TOML documents: a document means a checked library, or is refused by the first rule that it
+//! breaks, with the key.
+#![tactic(auto)]
+
+mod declarations;
+mod document;
+mod fault;
+mod keys;
+mod laws;
+mod names;
+mod refusals;
+#[cfg(test)]
+mod tests;
+mod types;
+
+pub use document::library_from_slice;
+pub use fault::LibFault;
+pub use laws::{
+    documents_are_judged_once, numbers_span_their_type, types_inside_types, unknown_keys_rise,
+};
+pub use refusals::refusal;

@@ -1,0 +1,54 @@
+// The line that tells why a document is refused.
+ghost use Rattle.std.specs.Prelude.{◌≡◌, ◌≢◌, IfOk};
+ghost use Rattle.fc_library.specs.Refusals as spec;
+ghost use Rattle.fc_library.specs.declared.fault.LibFault.TheVariants as faults;
+
+use crate::fault::LibFault;
+use fc_base::Memory;
+use fc_types::CheckFault;
+use std::alloc::Global;
+
+/// The line that tells the fault of a document of some kind, as `library`: `refused KIND RULE NAME`, and a line feed. A key
+/// is written as it stands.
+pub fn refusal(alloc: Global, kind: &str, fault: &LibFault) -> Result<Vec<u8>, Memory>
+    requires { fault.now ≢ faults.Memory }
+    ensures { IfOk result (λ line. line.items ≡ spec.refusal_text kind.now fault.now) }
+{
+    match fault {
+        LibFault::NotToml => line(alloc, kind, "nottoml", ""),
+        LibFault::Unknown(key) => line(alloc, kind, "unknown ", key.as_str()),
+        LibFault::Missing(key) => line(alloc, kind, "missing ", key.as_str()),
+        LibFault::WrongKind(key) => line(alloc, kind, "wrongkind ", key.as_str()),
+        LibFault::Check(fault) => line(alloc, kind, "check ", check_word(*fault)),
+        LibFault::Memory => Err(Memory),
+    }
+}
+
+// A line of a kind of document, a rule and what it names.
+fn line(alloc: Global, kind: &str, rule: &str, name: &str) -> Result<Vec<u8>, Memory>
+    ensures { IfOk result (λ line. line.items ≡ spec.line kind.now rule.now name.now) }
+{
+    let mut line = Vec::from_slice(alloc, b"refused ")?;
+    line.extend_from_slice(kind.as_bytes())?;
+    line.extend_from_slice(b" ")?;
+    line.extend_from_slice(rule.as_bytes())?;
+    line.extend_from_slice(name.as_bytes())?;
+    line.extend_from_slice(b"\n")?;
+    Ok(line)
+}
+
+// The name of a fault of the check, in lower case.
+fn check_word(fault: CheckFault) -> &'static str
+    ensures { result.now ≡ spec.check_word fault }
+{
+    match fault {
+        CheckFault::TooMany => "toomany",
+        CheckFault::DuplicateId => "duplicateid",
+        CheckFault::TooDeep => "toodeep",
+        CheckFault::BadRange => "badrange",
+        CheckFault::KeyNotAtomic => "keynotatomic",
+        CheckFault::BadTarget => "badtarget",
+        CheckFault::UnknownClass => "unknownclass",
+        CheckFault::Memory => "memory",
+    }
+}
