@@ -38,6 +38,7 @@ fn commands_have_their_values(rt: HostRuntime) -> Result<(), Fail> {
             "127.0.0.1:6704",
         ),
         ("element 1 40000001 a 2 3", [1, 0x4000_0001, 2, 3], "a"),
+        ("element 1 4000000a a 2 3", [1, 0x4000_000a, 2, 3], "a"),
         (
             "element 1073741823 7fffffFf = 4294967295 4294967294",
             [0x3fff_ffff, 0x7fff_ffff, 0xffff_ffff, 0xffff_fffe],
@@ -85,6 +86,10 @@ fn other_words_are_no_command(rt: HostRuntime) -> Result<(), Fail> {
         "element 7 4000000A a 0 1",
         "element 7 4000000A a 1 0",
         "element 7 4000000A a 01 1",
+        "element 7 4000000A a 1 01",
+        "element 7 4000000A a 1 1 ",
+        "element 7 0x40000A a 1 1",
+        "element 7 4000000A a 1 1_0",
         "element 7 4000000A a 4294967296 1",
         "element 7 4000000A a 1 4294967296",
         "element 7 4000000A a 1 -1",
