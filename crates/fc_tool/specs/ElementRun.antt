@@ -7,6 +7,10 @@ use Rattle.fc_hub.specs.Hubs.{Held}
 use Rattle.fc_hub.specs.declared.event.HubEvent.{HubEvent}
 use Rattle.fc_base.specs.declared.faults.Memory.{Memory}
 use Rattle.fc_element.specs.ElementMachine.{report_of}
+use Rattle.fc_library.specs.Documents.{library_of}
+use Rattle.fc_library.specs.Refusals.{refusal_text}
+use Rattle.fc_library.specs.declared.fault.LibFault.{LibFault}
+use Rattle.fc_types.specs.declared.class.Class.{Class}
 use Rattle.fc_tool.specs.declared.element.ElementEnd.{ElementEnd}
 use Rattle.fc_tool.specs.declared.element.ElementEnd.TheVariants.{Done, ReadFault, HubFault, Refused, Turns, TooLong}
 use Rattle.fc_tool.specs.declared.input.Look.{Look}
@@ -18,25 +22,32 @@ use Rattle.fc_tool.specs.Acting.{AreAll, Broke, Went}
 use Rattle.fc_tool.specs.ElementNode.{first_node, node_after}
 use Rattle.fc_tool.specs.Stops.{stop_status}
 
--- What was seen of an input of which so many bytes are looked at: it is empty, it is not, it is longer, it can't be read.
-abbrev pub LookEnds : ℕ → Result Look Memory → Option (List ℕ) → Option (List ℕ) → Type 0
-LookEnds limit (Ok look.Nothing) before left = Consumes before left [] × IsAtEnd left
-LookEnds limit (Ok look.Something) before left =
-    (bytes : List ℕ) × Consumes before left bytes × IsAtEnd left × (0 < length bytes) × (length bytes ≤ limit)
-LookEnds limit (Ok look.TooLong) before left = (bytes : List ℕ) × Consumes before left bytes × (length bytes ≡ limit + 1)
-LookEnds limit (Ok look.ReadFault) before left = (bytes : List ℕ) × Consumes before left bytes × (length bytes ≤ limit)
-LookEnds limit (Err e) before left = (bytes : List ℕ) × Consumes before left bytes × (length bytes ≤ limit)
+-- What was seen of an input of which so many bytes are looked at, and which of its bytes were read: it was read whole, it is
+-- longer, it can't be read.
+abbrev pub LookEnds : ℕ → Result Look Memory → List ℕ → Option (List ℕ) → Option (List ℕ) → Type 0
+LookEnds limit (Ok look.Whole) bytes before left = Consumes before left bytes × IsAtEnd left × (length bytes ≤ limit)
+LookEnds limit (Ok look.TooLong) bytes before left = Consumes before left bytes × (length bytes ≡ limit + 1)
+LookEnds limit (Ok look.ReadFault) bytes before left = Consumes before left bytes × (length bytes ≤ limit)
+LookEnds limit (Err e) bytes before left = Consumes before left bytes × (length bytes ≤ limit)
 
 abbrev pub LookCount : Result Look Memory → ℕ → ℕ → Type 0
 LookCount (Ok look.ReadFault) before now = Rose before now
-LookCount (Ok look.Nothing) before now = now ≡ before
-LookCount (Ok look.Something) before now = now ≡ before
+LookCount (Ok look.Whole) before now = now ≡ before
 LookCount (Ok look.TooLong) before now = now ≡ before
 LookCount (Err e) before now = now ≡ before
 
--- the line where the input is not empty: libraries are not taken yet
-abbrev pub not_built_text : List ℕ
-not_built_text = codes "refused library notbuilt\n"
+-- the bytes are a document that means a library
+abbrev pub MeansLibrary : List ℕ → Type 0
+MeansLibrary bytes = (given : List Class × List (ℕ × ℕ)) × (library_of bytes ≡ Ok given)
+
+-- the bytes are a document that means none
+abbrev pub MeansNone : List ℕ → Type 0
+MeansNone bytes = (fault : LibFault) × (library_of bytes ≡ Err fault)
+
+-- the line of a document that means no library
+abbrev pub refused_text : Result (List Class × List (ℕ × ℕ)) LibFault → List ℕ
+refused_text (Ok given) = []
+refused_text (Err fault) = refusal_text (codes "library") fault
 
 -- the report on the element once these events were taken
 abbrev pub report_after : ℕ → ℕ → List HubEvent → List ℕ
@@ -53,12 +64,21 @@ IsOutcome HubFault = ⊥
 
 -- what was seen of the input where `element` ends so
 abbrev pub look_of : ElementEnd → Look
-look_of Done = look.Nothing
-look_of Turns = look.Nothing
-look_of HubFault = look.Nothing
-look_of Refused = look.Something
+look_of Done = look.Whole
+look_of Turns = look.Whole
+look_of HubFault = look.Whole
+look_of Refused = look.Whole
 look_of ReadFault = look.ReadFault
 look_of TooLong = look.TooLong
+
+-- what the bytes that were read mean where it ends so
+abbrev pub JudgedSo : ElementEnd → List ℕ → Type 0
+JudgedSo Done bytes = MeansLibrary bytes
+JudgedSo Turns bytes = MeansLibrary bytes
+JudgedSo HubFault bytes = MeansLibrary bytes
+JudgedSo Refused bytes = MeansNone bytes
+JudgedSo ReadFault bytes = ⊤
+JudgedSo TooLong bytes = ⊤
 
 -- what was done on the hub where `element` ends so, of these events
 abbrev pub ActedSo : ℕ → ℕ → ℕ → ElementEnd → List HubEvent → Option Held → Option Held → Type 0
@@ -68,47 +88,48 @@ ActedSo id ce turns Done events old new = (length events < turns) × Went old ne
 ActedSo id ce turns Turns events old new = (length events ≡ turns) × Went old new (first_node id ce) events
 -- the hub failed: the acts of the events before stand, and a front of those of the last, but not all
 ActedSo id ce turns HubFault events old new = (length events < turns) × Broke stop.HubFault old new (first_node id ce) events
--- the input was not empty, or can't be read: nothing was done
+-- the input means no library, or can't be read: nothing was done
 ActedSo id ce turns Refused events old new = new ≡ old
 ActedSo id ce turns ReadFault events old new = new ≡ old
 ActedSo id ce turns TooLong events old new = new ≡ old
 
 -- what is written where `element` ends so
-abbrev pub element_text : ℕ → ℕ → ElementEnd → List HubEvent → List ℕ
-element_text id ce Done events = report_after id ce events
-element_text id ce Turns events = report_after id ce events
-element_text id ce HubFault events = []
-element_text id ce Refused events = not_built_text
-element_text id ce ReadFault events = []
-element_text id ce TooLong events = []
+abbrev pub element_text : ℕ → ℕ → ElementEnd → List ℕ → List HubEvent → List ℕ
+element_text id ce Done bytes events = report_after id ce events
+element_text id ce Turns bytes events = report_after id ce events
+element_text id ce HubFault bytes events = []
+element_text id ce Refused bytes events = refused_text (library_of bytes)
+element_text id ce ReadFault bytes events = []
+element_text id ce TooLong bytes events = []
 
--- `element` came to an end over these events: all of it but what was written
-abbrev pub ElementWent : ℕ → ℕ → ℕ → ℕ → ElementEnd → List HubEvent → Option (List ℕ) → Option (List ℕ) → Option Held → Option Held → Type 0
-ElementWent limit id ce turns end events before left old new =
-    LookEnds limit (Ok (look_of end)) before left × ActedSo id ce turns end events old new
+-- `element` came to an end over these bytes and these events: all of it but what was written
+abbrev pub ElementWent : ℕ → ℕ → ℕ → ℕ → ElementEnd → List ℕ → List HubEvent → Option (List ℕ) → Option (List ℕ) → Option Held → Option Held → Type 0
+ElementWent limit id ce turns end bytes events before left old new =
+    LookEnds limit (Ok (look_of end)) bytes before left × JudgedSo end bytes × ActedSo id ce turns end events old new
 
 -- it came to some end, and of what belongs to that a front was written
 abbrev pub ElementCut : ℕ → ℕ → ℕ → ℕ → Option (List ℕ) → Option (List ℕ) → Option Held → Option Held → Option (List ℕ) → Option (List ℕ) → Type 0
 ElementCut limit id ce turns before left old new text now =
-    (end : ElementEnd) × (events : List HubEvent) × ElementWent limit id ce turns end events before left old new
-    × AppendsFront text now (element_text id ce end events)
+    (end : ElementEnd) × (bytes : List ℕ) × (events : List HubEvent) × ElementWent limit id ce turns end bytes events before left old new
+    × AppendsFront text now (element_text id ce end bytes events)
 
 -- memory lacked over the hub: before the first event, or over one that is among those to be taken
 abbrev pub HubLacked : ℕ → ℕ → ℕ → Option Held → Option Held → Type 0
 HubLacked id ce turns old new =
     (new ≡ old) ⊎ ((events : List HubEvent) × (length events < turns) × Broke stop.NoMemory old new (first_node id ce) events)
 
--- memory lacked before it came to an end: while the input was looked at, or over the hub
+-- memory lacked before it came to an end: while the input was read and judged, or over the hub
 abbrev pub ElementLacked : ℕ → ℕ → ℕ → ℕ → Option (List ℕ) → Option (List ℕ) → Option Held → Option Held → Type 0
 ElementLacked limit id ce turns before left old new =
     ((bytes : List ℕ) × Consumes before left bytes × (length bytes ≤ limit) × (new ≡ old))
-    ⊎ (LookEnds limit (Ok look.Nothing) before left × HubLacked id ce turns old new)
+    ⊎ ((bytes : List ℕ) × LookEnds limit (Ok look.Whole) bytes before left × MeansLibrary bytes × HubLacked id ce turns old new)
 
 -- How `element` ends: what was read, what was done on the hub, and what was written.
 abbrev pub ElementEnds : ℕ → ℕ → ℕ → ℕ → Result ElementEnd Stop → Option (List ℕ) → Option (List ℕ) → Option Held → Option Held → Option (List ℕ) → Option (List ℕ) → Type 0
 -- all was written
 ElementEnds limit id ce turns (Ok end) before left old new text now =
-    (events : List HubEvent) × ElementWent limit id ce turns end events before left old new × Appends text now (element_text id ce end events)
+    (bytes : List ℕ) × (events : List HubEvent) × ElementWent limit id ce turns end bytes events before left old new
+    × Appends text now (element_text id ce end bytes events)
 -- the sink failed
 ElementEnds limit id ce turns (Err WriteFault) before left old new text now = ElementCut limit id ce turns before left old new text now
 -- memory lacked for what was to be written, or before anything was
@@ -116,15 +137,39 @@ ElementEnds limit id ce turns (Err NoMemory) before left old new text now =
     ElementCut limit id ce turns before left old new text now
     ⊎ (ElementLacked limit id ce turns before left old new × Appends text now [])
 
--- the same of the hub and of what was written alone, once the input was seen to be empty
+-- the same of the hub and of what was written alone, once the input was read whole
+abbrev pub DocumentCut : ℕ → ℕ → ℕ → List ℕ → Option Held → Option Held → Option (List ℕ) → Option (List ℕ) → Type 0
+DocumentCut id ce turns bytes old new text now =
+    (end : ElementEnd) × (events : List HubEvent) × (look_of end ≡ look.Whole) × JudgedSo end bytes × ActedSo id ce turns end events old new
+    × AppendsFront text now (element_text id ce end bytes events)
+
+abbrev pub DocumentEnds : ℕ → ℕ → ℕ → List ℕ → Result ElementEnd Stop → Option Held → Option Held → Option (List ℕ) → Option (List ℕ) → Type 0
+DocumentEnds id ce turns bytes (Ok end) old new text now =
+    (events : List HubEvent) × (look_of end ≡ look.Whole) × JudgedSo end bytes × ActedSo id ce turns end events old new
+    × Appends text now (element_text id ce end bytes events)
+DocumentEnds id ce turns bytes (Err WriteFault) old new text now = DocumentCut id ce turns bytes old new text now
+DocumentEnds id ce turns bytes (Err NoMemory) old new text now =
+    DocumentCut id ce turns bytes old new text now
+    ⊎ (((new ≡ old) ⊎ (MeansLibrary bytes × HubLacked id ce turns old new)) × Appends text now [])
+
+-- the endings over the hub
+abbrev pub IsRun : ElementEnd → Type 0
+IsRun Done = ⊤
+IsRun Turns = ⊤
+IsRun HubFault = ⊤
+IsRun Refused = ⊥
+IsRun ReadFault = ⊥
+IsRun TooLong = ⊥
+
+-- the same once the document was seen to mean a library, whatever its bytes are
 abbrev pub RunCut : ℕ → ℕ → ℕ → Option Held → Option Held → Option (List ℕ) → Option (List ℕ) → Type 0
 RunCut id ce turns old new text now =
-    (end : ElementEnd) × (events : List HubEvent) × (look_of end ≡ look.Nothing) × ActedSo id ce turns end events old new
-    × AppendsFront text now (element_text id ce end events)
+    (end : ElementEnd) × (events : List HubEvent) × IsRun end × ActedSo id ce turns end events old new
+    × AppendsFront text now (element_text id ce end [] events)
 
 abbrev pub RunEnds : ℕ → ℕ → ℕ → Result ElementEnd Stop → Option Held → Option Held → Option (List ℕ) → Option (List ℕ) → Type 0
 RunEnds id ce turns (Ok end) old new text now =
-    (events : List HubEvent) × (look_of end ≡ look.Nothing) × ActedSo id ce turns end events old new × Appends text now (element_text id ce end events)
+    (events : List HubEvent) × IsRun end × ActedSo id ce turns end events old new × Appends text now (element_text id ce end [] events)
 RunEnds id ce turns (Err WriteFault) old new text now = RunCut id ce turns old new text now
 RunEnds id ce turns (Err NoMemory) old new text now = RunCut id ce turns old new text now ⊎ (HubLacked id ce turns old new × Appends text now [])
 

@@ -1,19 +1,23 @@
 // The command `element`.
-ghost use Rattle.std.specs.Prelude.{◌≡◌, OnOk, OnErr};
+ghost use Rattle.std.specs.Prelude.{◌≡◌, ◌≢◌, codes, OnOk, OnErr};
 ghost use Rattle.std.specs.Io.KnownBytes.{Appends};
 ghost use Rattle.fc_base.specs.Content.{AppendsFront};
 ghost use Rattle.fc_element.specs.ElementMachine.{report_of};
-ghost use Rattle.fc_tool.specs.ElementRun.{ElementEnds, ElementHub, ElementSource, RunEnds};
+ghost use Rattle.fc_library.specs.Refusals.{refusal_text};
+ghost use Rattle.fc_library.specs.declared.fault.LibFault.TheVariants as faults;
+ghost use Rattle.fc_tool.specs.ElementRun.{DocumentEnds, ElementEnds, ElementHub, ElementSource, RunEnds};
 ghost use Rattle.fc_tool.specs.Stops.{FlushedAt, SinkCount};
 
 use crate::acting::NodeStop;
 use crate::input::{LIMIT, Look, look_over};
 use crate::node::Node;
 use crate::serve::{Served, serve};
+use crate::splitter::Splitter;
 use crate::stops::{Stop, finish, put};
 use fc_base::{CeId, FeId, Sink, Source};
 use fc_element::Element;
 use fc_hub::Hub;
+use fc_library::{LibFault, library_from_slice, refusal};
 use std::alloc::Global;
 
 /// How `element` ended, where all was written.
@@ -25,7 +29,7 @@ pub enum ElementEnd {
     ReadFault,
     /// The hub failed.
     HubFault,
-    /// The input is no library that is taken.
+    /// The input means no library.
     Refused,
     /// So many events were taken as are to be taken.
     Turns,
@@ -59,7 +63,7 @@ pub fn element<S: Source, K: Sink, H: Hub>(
     }
 }
 
-// Runs the element, if the input is empty.
+// Reads the library of the element, and runs it.
 fn element_ends<S: Source, K: Sink, H: Hub>(
     alloc: Global,
     fe: FeId,
@@ -75,14 +79,50 @@ fn element_ends<S: Source, K: Sink, H: Hub>(
     ensures hub { ElementHub result (H.faults hub.old) (H.faults hub.new) }
     ensures sink { SinkCount result (K.faults out.old) (K.faults out.new) }
 {
-    match look_over(alloc, input) {
-        Ok(Look::Nothing) => run_element(alloc, fe, ce, turns, out, hub),
-        Ok(Look::Something) => match put(out, b"refused library notbuilt\n") {
+    let mut held = Splitter::new(alloc);
+    match look_over(input, &mut held) {
+        Ok(Look::Whole) => declared_element(alloc, fe, ce, turns, held.rest(), out, hub),
+        Ok(Look::TooLong) => Ok(ElementEnd::TooLong),
+        Ok(Look::ReadFault) => Ok(ElementEnd::ReadFault),
+        Err(_) => Err(Stop::NoMemory),
+    }
+}
+
+// Runs the element, if its document means a library. Else it tells why it means none.
+fn declared_element<K: Sink, H: Hub>(
+    alloc: Global,
+    fe: FeId,
+    ce: CeId,
+    turns: u32,
+    document: &[u8],
+    out: &mut K,
+    hub: &mut H,
+) -> Result<ElementEnd, Stop>
+    ensures ends { DocumentEnds fe ce turns document.now result (H.held hub.old) (H.held hub.new) (K.written out.old) (K.written out.new) }
+    ensures unflushed { K.flushed out.new ≡ K.flushed out.old }
+    ensures hub { ElementHub result (H.faults hub.old) (H.faults hub.new) }
+    ensures sink { SinkCount result (K.faults out.old) (K.faults out.new) }
+{
+    match library_from_slice(alloc, document) {
+        Ok(_) => run_element(alloc, fe, ce, turns, out, hub),
+        Err(LibFault::Memory) => Err(Stop::NoMemory),
+        Err(fault) => match put_refusal(alloc, &fault, out) {
             Ok(()) => Ok(ElementEnd::Refused),
             Err(stop) => Err(stop),
         },
-        Ok(Look::TooLong) => Ok(ElementEnd::TooLong),
-        Ok(Look::ReadFault) => Ok(ElementEnd::ReadFault),
+    }
+}
+
+// Writes why a document means no library. After an `Err` a front of it was written.
+fn put_refusal<K: Sink>(alloc: Global, fault: &LibFault, out: &mut K) -> Result<(), Stop>
+    requires { fault.now ≢ faults.Memory }
+    ensures ok { OnOk result (Appends (K.written out.old) (K.written out.new) (refusal_text (codes "library") fault.now)) }
+    ensures err { OnErr result (AppendsFront (K.written out.old) (K.written out.new) (refusal_text (codes "library") fault.now)) }
+    ensures unflushed { K.flushed out.new ≡ K.flushed out.old }
+    ensures count { SinkCount result (K.faults out.old) (K.faults out.new) }
+{
+    match refusal(alloc, "library", fault) {
+        Ok(line) => put(out, line.as_slice()),
         Err(_) => Err(Stop::NoMemory),
     }
 }

@@ -495,14 +495,36 @@ fn an_element_takes_no_more_events_than_it_is_to_take(rt: HostRuntime) -> Result
 }
 
 #[test]
-fn a_library_is_refused_and_nothing_is_done(rt: HostRuntime) -> Result<(), Fail> {
+fn a_library_that_is_refused_leaves_the_hub_alone(rt: HostRuntime) -> Result<(), Fail> {
     let alloc = rt.alloc();
-    let mut input = Vec::new(alloc);
-    input.push(b'<')?;
+    for (document, line) in [
+        ("<", "refused library nottoml\n"),
+        ("colour = 1", "refused library unknown colour\n"),
+        ("class = [{ id = 5 }]", "refused library missing name\n"),
+        ("class = 5", "refused library wrongkind class\n"),
+        (
+            "instance = [{ class = 5, id = 1 }]",
+            "refused library check unknownclass\n",
+        ),
+    ] {
+        let input = Vec::from_slice(alloc, document.as_bytes())?;
+        let (status, text, hub) = ran(alloc, "element 2 40000001 a 1 9", input, greeting(alloc)?)?;
+        assert_eq!(rt; status, 5, "{document}");
+        assert_eq!(rt; text.as_slice(), line.as_bytes(), "{document}");
+        assert_eq!(rt; hub.acts().len(), 0, "{document}");
+    }
+    Ok(())
+}
+
+#[test]
+fn an_element_with_a_library_serves(rt: HostRuntime) -> Result<(), Fail> {
+    let alloc = rt.alloc();
+    let document = "class = [{ id = 5, name = 'c' }]\ninstance = [{ class = 5, id = 1 }]";
+    let input = Vec::from_slice(alloc, document.as_bytes())?;
     let (status, text, hub) = ran(alloc, "element 2 40000001 a 1 9", input, greeting(alloc)?)?;
-    assert_eq!(rt; status, 5);
-    assert_eq!(rt; text.as_slice(), b"refused library notbuilt\n".as_slice());
-    assert_eq!(rt; hub.acts().len(), 0);
+    assert_eq!(rt; status, 0);
+    assert_eq!(rt; text.as_slice(), REPORT.as_bytes());
+    assert_eq!(rt; hub.acts().len(), 2);
     Ok(())
 }
 

@@ -1,0 +1,11 @@
+use Rattle.std.proofs.Common.{rules, refl, inl}
+use Rattle.fc_tool.proofs.Ending.{fault_meant, refused_stops}
+use Rattle.fc_tool.proofs.element.declared_element.Goals as goal
+
+pub returns : goal.returns
+returns g c = record {
+  ends = refused_stops c.in-Err-put_refusal.stop c.in-Err.fault _ _ _ _ _ _ _ (fault_meant c.in-Err.fault c.args.document.now (search rules) c.in-Err.ensures) c.in-Err-put_refusal.ensures.err;
+  unflushed = c.in-Err-put_refusal.ensures.unflushed;
+  hub = inl refl;
+  sink = c.in-Err-put_refusal.ensures.count;
+}
