@@ -215,7 +215,7 @@ fn headers_and_names_of_reasons(rt: HostRuntime) -> Result<(), Fail> {
 
 // Appends an LFBselect with one GET of so many IDs, which takes 24 bytes and four for each.
 fn push_get(bytes: &mut Vec<u8>, ids: u16) -> Result<(), AllocError> {
-    let size = 24 + 4 * (ids % 0x3fff);
+    let size = 24 + 4 * (ids % 0x3ff2);
     for (kind, len) in [
         (0x1000u16, size),
         (0, 0),
