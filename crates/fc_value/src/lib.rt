@@ -1,0 +1,25 @@
+//! Values of the declared types, and their bytes in the full and in the sparse form (RFC 5810, section 7.1; RFC 5812,
+//! section 4.5).
+#![tactic(auto)]
+
+mod key;
+mod live;
+mod nodes;
+mod number;
+mod opening;
+mod parts;
+mod read;
+mod sparse;
+#[cfg(test)]
+mod tests;
+mod value;
+mod write;
+
+pub use key::key_value;
+pub use live::Live;
+pub use nodes::{node, node_mut};
+pub use opening::first;
+pub use read::read_full;
+pub use sparse::read_sparse;
+pub use value::Value;
+pub use write::write_full;

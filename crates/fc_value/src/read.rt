@@ -1,0 +1,161 @@
+// Reading values in the full form.
+use crate::Value;
+use crate::key::keys_differ;
+use crate::number::read_number;
+use crate::parts::{
+    cut_full_data, read_fixed, read_octets, read_subscript, read_text, read_truth, skip_padding,
+};
+use fc_base::{Code, List, Memory, OpFault};
+use fc_types::{Field, KeyDecl, Ty, fields_of};
+use std::alloc::Global;
+use std::collections::BTreeMap;
+
+/// The value of which the bytes are the full form. The first failure from left to right gives the code: `INVALID_TLV`
+/// where bytes are missing, an inner TLV is not a FULLDATA or is short or past, or a subscript is repeated;
+/// `INVALID_PARAMETERS` where a text is not UTF-8; `VALUE_OUT_OF_RANGE` where a value is none of its type, or an array has
+/// more entries than it may; after the last entry of an array, `INVALID_PARAMETERS` where two have an equal key; and last
+/// of all `INVALID_TLV` where bytes are left over.
+pub fn read_full(alloc: Global, ty: &Ty, bytes: &[u8]) -> Result<Value, OpFault> {
+    read_whole(alloc, ty, bytes)
+}
+
+/// The value of which the bytes are the full form, as a value that stands by itself.
+pub fn read_whole(alloc: Global, ty: &Ty, bytes: &[u8]) -> Result<Value, OpFault> {
+    match ty {
+        Ty::String { length } => read_text(alloc, bytes, *length),
+        Ty::Octets { length } => read_octets(alloc, bytes, *length),
+        Ty::Array {
+            entry,
+            entries,
+            keys,
+        } => read_table(alloc, entry.get(), *entries, keys.as_slice(), bytes),
+        _ => {
+            let (value, rest) = read_inside(alloc, ty, bytes)?;
+            if !rest.is_empty() {
+                return Err(OpFault::Refused(Code::INVALID_TLV));
+            }
+            Ok(value)
+        }
+    }
+}
+
+// The value at the front of what a struct or an entry has, and what stands behind it.
+#[cycle(read)]
+fn read_inside<'a>(
+    alloc: Global,
+    ty: &Ty,
+    bytes: &'a [u8],
+) -> Result<(Value, &'a [u8]), OpFault> {
+    match ty {
+        Ty::Bool => Ok(read_truth(bytes)?),
+        Ty::Number {
+            bytes: width,
+            signed,
+            min,
+            max,
+        } => read_number(bytes, *width, *signed, *min, *max),
+        Ty::Bytes { length } => read_fixed(alloc, bytes, *length),
+        Ty::Struct { fields } => {
+            let (values, rest) = read_fields(alloc, fields, bytes)?;
+            Ok((Value::Group(values), rest))
+        }
+        Ty::String { length } => {
+            let (body, behind) = cut_full_data(bytes)?;
+            let value = read_text(alloc, body, *length)?;
+            Ok((value, skip_padding(behind, body.len())?))
+        }
+        Ty::Octets { length } => {
+            let (body, behind) = cut_full_data(bytes)?;
+            let value = read_octets(alloc, body, *length)?;
+            Ok((value, skip_padding(behind, body.len())?))
+        }
+        Ty::Array {
+            entry,
+            entries,
+            keys,
+        } => {
+            let (body, behind) = cut_full_data(bytes)?;
+            let value = read_table(alloc, entry.get(), *entries, keys.as_slice(), body)?;
+            Ok((value, skip_padding(behind, body.len())?))
+        }
+    }
+}
+
+// One value of each field, and what stands behind them.
+#[cycle(read)]
+fn read_fields<'a>(
+    alloc: Global,
+    fields: &List<Field>,
+    bytes: &'a [u8],
+) -> Result<(List<Value>, &'a [u8]), OpFault> {
+    let mut values = List::new(alloc);
+    let mut rest = bytes;
+    for field in fields.as_slice() {
+        let (value, behind) = read_inside(alloc, &field.ty, rest)?;
+        values.push(value)?;
+        rest = behind;
+    }
+    Ok((values, rest))
+}
+
+// An array of which the bytes are the entries.
+#[cycle(read)]
+fn read_table(
+    alloc: Global,
+    entry: &Ty,
+    limit: u32,
+    keys: &[KeyDecl],
+    bytes: &[u8],
+) -> Result<Value, OpFault> {
+    let entries = listed(alloc, read_entries(alloc, entry, limit, bytes)?)?;
+    if !keys_differ(alloc, fields_of(entry), keys, entries.as_slice())? {
+        return Err(OpFault::Refused(Code::INVALID_PARAMETERS));
+    }
+    Ok(Value::Table(entries))
+}
+
+// The entries by rising subscript.
+fn listed(alloc: Global, map: BTreeMap<u32, Value>) -> Result<List<(u32, Value)>, Memory> {
+    let mut entries = List::new(alloc);
+    for entry in map {
+        entries.push(entry)?;
+    }
+    Ok(entries)
+}
+
+// The entries of which the bytes are the full forms, at most so many.
+#[cycle(read)]
+fn read_entries(
+    alloc: Global,
+    entry: &Ty,
+    limit: u32,
+    bytes: &[u8],
+) -> Result<BTreeMap<u32, Value>, OpFault> {
+    let mut entries = BTreeMap::new(alloc);
+    let mut rest = bytes;
+    while !rest.is_empty() {
+        rest = read_entry(alloc, entry, limit, rest, &mut entries)?;
+    }
+    Ok(entries)
+}
+
+// One entry more, and what stands behind it.
+#[cycle(read)]
+fn read_entry<'a>(
+    alloc: Global,
+    entry: &Ty,
+    limit: u32,
+    bytes: &'a [u8],
+    entries: &mut BTreeMap<u32, Value>,
+) -> Result<&'a [u8], OpFault> {
+    let (subscript, behind) = read_subscript(bytes)?;
+    if entries.contains_key(&subscript) {
+        return Err(OpFault::Refused(Code::INVALID_TLV));
+    }
+    if entries.len() >= limit as usize {
+        return Err(OpFault::Refused(Code::VALUE_OUT_OF_RANGE));
+    }
+    let (value, rest) = read_inside(alloc, entry, behind)?;
+    entries.insert(subscript, value)?;
+    Ok(rest)
+}

@@ -1,0 +1,57 @@
+// Reading values in the sparse form.
+use crate::Value;
+use crate::read::read_whole;
+use fc_base::{Code, List, OpFault};
+use fc_types::{Ty, is_atom, with_id};
+use fc_wire::Ilv;
+use std::alloc::Global;
+use std::collections::BTreeSet;
+
+// The type of a field of a struct, or of an entry of an array.
+fn part_of(ty: &Ty, ident: u32) -> Option<&Ty> {
+    match ty {
+        Ty::Struct { fields } => match with_id(fields.as_slice(), ident) {
+            Some(field) => Some(&field.ty),
+            None => None,
+        },
+        Ty::Array { entry, .. } => Some(entry.get()),
+        _ => None,
+    }
+}
+
+/// The new values of the fields of a struct, or of the entries of an array, that ILVs name, in their order. In the order
+/// of the ILVs, `INVALID_TLV` where an identifier is repeated or is no field, and then the code of the value;
+/// `INVALID_TLV` where the type is neither a struct nor an array.
+pub fn read_sparse(
+    alloc: Global,
+    ty: &Ty,
+    ilvs: &[Ilv],
+) -> Result<List<(u32, Value)>, OpFault> {
+    if is_atom(ty) {
+        return Err(OpFault::Refused(Code::INVALID_TLV));
+    }
+    let mut seen = BTreeSet::new(alloc);
+    let mut changes = List::new(alloc);
+    for ilv in ilvs {
+        let value = read_change(alloc, ty, ilv, &mut seen)?;
+        changes.push((ilv.ident, value))?;
+    }
+    Ok(changes)
+}
+
+// The value of one ILV, whose identifier is seen from then on.
+fn read_change(
+    alloc: Global,
+    ty: &Ty,
+    ilv: &Ilv,
+    seen: &mut BTreeSet<u32>,
+) -> Result<Value, OpFault> {
+    if seen.contains(&ilv.ident) {
+        return Err(OpFault::Refused(Code::INVALID_TLV));
+    }
+    seen.insert(ilv.ident)?;
+    match part_of(ty, ilv.ident) {
+        None => Err(OpFault::Refused(Code::INVALID_TLV)),
+        Some(part) => read_whole(alloc, part, ilv.value.as_slice()),
+    }
+}
