@@ -1,4 +1,8 @@
 // Keys of entries.
+ghost use Rattle.std.specs.Prelude.{◌≡◌, ◌++◌, map, option_map, IfOk, OnOk};
+ghost use Rattle.fc_value.specs.Keys as spec;
+ghost use Rattle.fc_value.specs.Writing.{full_bytes, inside_bytes};
+
 use crate::Value;
 use crate::write::{write_inside, write_whole};
 use fc_base::Memory;
@@ -10,7 +14,9 @@ fn field_with<'a>(
     fields: &'a [Field],
     values: &'a [Value],
     id: u32,
-) -> Option<(&'a Ty, &'a Value)> {
+) -> Option<(&'a Ty, &'a Value)>
+    ensures { option_map (λ x. (x.0.now, x.1.now)) result ≡ spec.field_with fields.now values.now id }
+{
     let mut rest = values;
     for field in fields {
         match rest {
@@ -32,9 +38,26 @@ fn write_alone(
     values: &[Value],
     id: u32,
     into: &mut Vec<u8>,
-) -> Result<(), Memory> {
+) -> Result<(), Memory>
+    ensures { OnOk result (into.new.items ≡ into.old.items ++ spec.some_bytes full_bytes (spec.field_with fields.now values.now id)) }
+{
     match field_with(fields, values, id) {
         Some((ty, value)) => write_whole(ty, value, into),
+        None => Ok(()),
+    }
+}
+
+// Appends the value of a field that stands in a struct.
+fn write_one(
+    fields: &[Field],
+    values: &[Value],
+    id: u32,
+    into: &mut Vec<u8>,
+) -> Result<(), Memory>
+    ensures { OnOk result (into.new.items ≡ into.old.items ++ spec.some_bytes inside_bytes (spec.field_with fields.now values.now id)) }
+{
+    match field_with(fields, values, id) {
+        Some((ty, value)) => write_inside(ty, value, into),
         None => Ok(()),
     }
 }
@@ -45,29 +68,49 @@ fn write_some(
     values: &[Value],
     ids: &[u32],
     into: &mut Vec<u8>,
-) -> Result<(), Memory> {
+) -> Result<(), Memory>
+    ensures { OnOk result (into.new.items ≡ into.old.items ++ spec.fields_bytes fields.now ids.now values.now) }
+{
     for id in ids {
-        if let Some((ty, value)) = field_with(fields, values, *id) {
-            write_inside(ty, value, into)?;
-        }
+        write_one(fields, values, *id, into)?;
     }
     Ok(())
 }
 
+// Appends the value of a key of these fields: one alone, or the struct of them.
+fn write_key(
+    fields: &[Field],
+    values: &[Value],
+    ids: &[u32],
+    into: &mut Vec<u8>,
+) -> Result<(), Memory>
+    ensures { OnOk result (into.new.items ≡ into.old.items ++ spec.key_of fields.now ids.now values.now) }
+{
+    match ids {
+        [id] => write_alone(fields, values, *id, into),
+        ids => write_some(fields, values, ids, into),
+    }
+}
+
 /// The value that a key has in an entry: the full form of its field alone where it has one field, else that of the
 /// struct of its fields in the key's order. The fields are those of the entry's struct.
+#[tactic(auto, unfolding(crate::specs::Keys::key_value))]
 pub fn key_value(
     alloc: Global,
     fields: &[Field],
     key: &KeyDecl,
     entry: &Value,
-) -> Result<Vec<u8>, Memory> {
+) -> Result<Vec<u8>, Memory>
+    ensures { IfOk result (λ bytes. bytes.items ≡ spec.key_value fields.now key.now entry.now) }
+{
     let mut bytes = Vec::new(alloc);
     if let Value::Group(values) = entry {
-        match key.fields.as_slice() {
-            [id] => write_alone(fields, values.as_slice(), *id, &mut bytes)?,
-            ids => write_some(fields, values.as_slice(), ids, &mut bytes)?,
-        }
+        write_key(
+            fields,
+            values.as_slice(),
+            key.fields.as_slice(),
+            &mut bytes,
+        )?;
     }
     Ok(bytes)
 }
@@ -78,7 +121,9 @@ fn key_values(
     fields: &[Field],
     key: &KeyDecl,
     entries: &[(u32, Value)],
-) -> Result<Vec<Vec<u8>>, Memory> {
+) -> Result<Vec<Vec<u8>>, Memory>
+    ensures { IfOk result (λ values. map (λ v. v.items) values.items ≡ spec.key_values fields.now key.now entries.now) }
+{
     let mut values = Vec::new(alloc);
     for (_, entry) in entries {
         values.push(key_value(alloc, fields, key, entry)?)?;
@@ -87,15 +132,19 @@ fn key_values(
 }
 
 // Whether the first of the values, if any, is above this one.
-fn begin_above(values: &[Vec<u8>], value: &Vec<u8>) -> bool {
+fn begin_above(values: &[Vec<u8>], value: &Vec<u8>) -> bool
+    ensures { result ≡ spec.is_below value.now.items (map (λ v. v.items) values.now) }
+{
     match values {
         [] => true,
-        [first, ..] => value < first,
+        [first, ..] => value.cmp(first).is_lt(),
     }
 }
 
 // Whether each value is below the next one.
-fn are_rising(values: &[Vec<u8>]) -> bool {
+fn are_rising(values: &[Vec<u8>]) -> bool
+    ensures { result ≡ spec.is_rising (map (λ v. v.items) values.now) }
+{
     let mut rest = values;
     while let [first, others @ ..] = rest {
         if !begin_above(others, first) {
@@ -112,7 +161,9 @@ fn differ_in(
     fields: &[Field],
     key: &KeyDecl,
     entries: &[(u32, Value)],
-) -> Result<bool, Memory> {
+) -> Result<bool, Memory>
+    ensures { IfOk result (λ b. b ≡ spec.differ_in fields.now entries.now key.now) }
+{
     let mut values = key_values(alloc, fields, key, entries)?;
     values.sort()?;
     Ok(are_rising(&values))
@@ -124,7 +175,9 @@ pub fn keys_differ(
     fields: &[Field],
     keys: &[KeyDecl],
     entries: &[(u32, Value)],
-) -> Result<bool, Memory> {
+) -> Result<bool, Memory>
+    ensures { IfOk result (λ b. b ≡ spec.keys_differ fields.now keys.now entries.now) }
+{
     for key in keys {
         if !differ_in(alloc, fields, key, entries)? {
             return Ok(false);

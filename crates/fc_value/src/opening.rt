@@ -1,4 +1,8 @@
 // The values that components begin with.
+ghost use Rattle.std.specs.Prelude.{◌≡◌, map, replicate, IfOk};
+ghost use Rattle.fc_value.specs.Opening as spec;
+ghost use Rattle.fc_value.specs.Opening.{opening, opening_at};
+
 use crate::Value;
 use fc_base::{List, Memory, Octets, Text};
 use fc_types::{Field, Ty};
@@ -7,7 +11,10 @@ use std::alloc::Global;
 /// The opening value of a type: false, the number that is nearest to 0, no text or octets, bytes of zeros, a struct of
 /// opening values, and an array without entries.
 #[cycle(first)]
-pub fn first(alloc: Global, ty: &Ty) -> Result<Value, Memory> {
+#[tactic(auto, unfolding(crate::specs::Opening::opening, crate::specs::Opening::opening_at))]
+pub fn first(alloc: Global, ty: &Ty) -> Result<Value, Memory>
+    ensures { IfOk result (λ v. v ≡ opening ty.now) }
+{
     match ty {
         Ty::Bool => Ok(Value::Truth(false)),
         Ty::Number { min, max, .. } => Ok(Value::Number(nearest(*min, *max))),
@@ -20,7 +27,10 @@ pub fn first(alloc: Global, ty: &Ty) -> Result<Value, Memory> {
 }
 
 #[cycle(first)]
-fn first_of_fields(alloc: Global, fields: &List<Field>) -> Result<List<Value>, Memory> {
+#[tactic(auto, unfolding(crate::specs::Opening::opening, crate::specs::Opening::opening_at))]
+fn first_of_fields(alloc: Global, fields: &List<Field>) -> Result<List<Value>, Memory>
+    ensures { IfOk result (λ vs. vs ≡ map opening_at fields.now) }
+{
     let mut values = List::new(alloc);
     for field in fields.as_slice() {
         values.push(first(alloc, &field.ty)?)?;
@@ -29,7 +39,9 @@ fn first_of_fields(alloc: Global, fields: &List<Field>) -> Result<List<Value>, M
 }
 
 // The number of a range that is nearest to 0.
-fn nearest(min: i128, max: i128) -> i128 {
+fn nearest(min: i128, max: i128) -> i128
+    ensures { result ≡ spec.nearest min max }
+{
     if min > 0 {
         min
     } else if max < 0 {
@@ -40,8 +52,10 @@ fn nearest(min: i128, max: i128) -> i128 {
 }
 
 // So many zeros.
-fn zeros(alloc: Global, length: u32) -> Result<Octets, Memory> {
+fn zeros(alloc: Global, count: u32) -> Result<Octets, Memory>
+    ensures { IfOk result (λ bytes. bytes ≡ replicate count 0) }
+{
     let mut bytes: Vec<u8> = Vec::new(alloc);
-    bytes.resize(length as usize, 0)?;
+    bytes.resize(count as usize, 0)?;
     Ok(Octets::from_vec(bytes))
 }

@@ -1,13 +1,24 @@
 // Parts of bytes that hold values.
+ghost use Rattle.std.specs.Prelude.{◌≡◌, ◌++◌, ◌+◌, ◌-◌, ◌%◌, ◌≤◌, ◌<◌, length, IfOk, OnOk};
+ghost use Rattle.fc_wire.specs.Bytes.{u32_at};
+ghost use Rattle.fc_value.specs.Outcomes.{Answers, Gives};
+ghost use Rattle.fc_value.specs.Reading.{taken, truth_in, fixed_in, text_of, octets_of, cut, unpadded};
+ghost use Rattle.fc_wire.specs.Writing.{padding};
+ghost use Rattle.fc_value.specs.Writing.{full_data};
+
 use crate::Value;
 use fc_base::{Code, Memory, Octets, OpFault, Text};
-use fc_wire::{read_u16, read_u32};
+use fc_wire::read_u16;
 use std::alloc::Global;
 
 const FULL_DATA: u16 = 0x0112;
 
 /// So many bytes at the front, and what stands behind them.
-pub fn take(bytes: &[u8], count: usize) -> Result<(&[u8], &[u8]), Code> {
+pub fn take(bytes: &[u8], count: usize) -> Result<(&[u8], &[u8]), Code>
+    ensures exact { Answers (λ x. (x.0.now, x.1.now)) result (taken count bytes.now) }
+    ensures front { IfOk result (λ x. length x.0.now ≡ count) }
+    ensures rest { IfOk result (λ x. length x.1.now + count ≡ length bytes.now) }
+{
     if bytes.len() < count {
         return Err(Code::INVALID_TLV);
     }
@@ -15,7 +26,10 @@ pub fn take(bytes: &[u8], count: usize) -> Result<(&[u8], &[u8]), Code> {
 }
 
 /// The truth value at the front, and what stands behind it.
-pub fn read_truth(bytes: &[u8]) -> Result<(Value, &[u8]), Code> {
+pub fn read_truth(bytes: &[u8]) -> Result<(Value, &[u8]), Code>
+    ensures exact { Answers (λ x. (x.0, x.1.now)) result (truth_in bytes.now) }
+    ensures short { IfOk result (λ x. length x.1.now ≤ length bytes.now) }
+{
     match bytes {
         [] => Err(Code::INVALID_TLV),
         [0, rest @ ..] => Ok((Value::Truth(false), rest)),
@@ -25,16 +39,21 @@ pub fn read_truth(bytes: &[u8]) -> Result<(Value, &[u8]), Code> {
 }
 
 /// So many bytes at the front as a value, and what stands behind them.
-pub fn read_fixed(alloc: Global, bytes: &[u8], length: u32) -> Result<(Value, &[u8]), OpFault> {
-    let (front, rest) = take(bytes, length as usize)?;
+pub fn read_fixed(alloc: Global, bytes: &[u8], count: u32) -> Result<(Value, &[u8]), OpFault>
+    ensures exact { Gives (λ x. (x.0, x.1.now)) result (fixed_in count bytes.now) }
+    ensures short { IfOk result (λ x. length x.1.now ≤ length bytes.now) }
+{
+    let (front, rest) = take(bytes, count as usize)?;
     Ok((Value::Raw(Octets::from_slice(alloc, front)?), rest))
 }
 
 /// The bytes as a text of at most so many bytes.
-pub fn read_text(alloc: Global, bytes: &[u8], length: u32) -> Result<Value, OpFault> {
+pub fn read_text(alloc: Global, bytes: &[u8], limit: u32) -> Result<Value, OpFault>
+    ensures { Gives (λ x. x) result (text_of limit bytes.now) }
+{
     match str::from_utf8(bytes) {
         Ok(text) => {
-            if bytes.len() > length as usize {
+            if bytes.len() > limit as usize {
                 return Err(OpFault::Refused(Code::VALUE_OUT_OF_RANGE));
             }
             Ok(Value::Text(Text::from_str(alloc, text)?))
@@ -44,43 +63,60 @@ pub fn read_text(alloc: Global, bytes: &[u8], length: u32) -> Result<Value, OpFa
 }
 
 /// The bytes as octets, at most so many.
-pub fn read_octets(alloc: Global, bytes: &[u8], length: u32) -> Result<Value, OpFault> {
-    if bytes.len() > length as usize {
+pub fn read_octets(alloc: Global, bytes: &[u8], limit: u32) -> Result<Value, OpFault>
+    ensures { Gives (λ x. x) result (octets_of limit bytes.now) }
+{
+    if bytes.len() > limit as usize {
         return Err(OpFault::Refused(Code::VALUE_OUT_OF_RANGE));
     }
     Ok(Value::Raw(Octets::from_slice(alloc, bytes)?))
 }
 
-/// The subscript at the front, and what stands behind it.
-pub fn read_subscript(bytes: &[u8]) -> Result<(u32, &[u8]), Code> {
-    let (front, rest) = take(bytes, 4)?;
-    Ok((read_u32(front, 0), rest))
-}
-
 /// The value of the FULLDATA at the front, and what stands behind it, which begins with its padding.
-pub fn cut_full_data(bytes: &[u8]) -> Result<(&[u8], &[u8]), Code> {
-    let (head, _) = take(bytes, 4)?;
-    let length = usize::from(read_u16(head, 2));
-    if read_u16(head, 0) != FULL_DATA || length < 4 {
+#[tactic(auto, unfolding(crate::specs::Reading::cut))]
+pub fn cut_full_data(bytes: &[u8]) -> Result<(&[u8], &[u8]), Code>
+    ensures exact { Answers (λ x. (x.0.now, x.1.now)) result (cut bytes.now) }
+    ensures short { IfOk result (λ x. length x.1.now ≤ length bytes.now) }
+{
+    if bytes.len() < 4 {
         return Err(Code::INVALID_TLV);
     }
-    let (front, rest) = take(bytes, length)?;
-    let (_, body) = front.split_at(4);
-    Ok((body, rest))
+    let length = usize::from(read_u16(bytes, 2));
+    if read_u16(bytes, 0) != FULL_DATA || length < 4 {
+        return Err(Code::INVALID_TLV);
+    }
+    if bytes.len() < length {
+        return Err(Code::INVALID_TLV);
+    }
+    Ok((&bytes[4..length], &bytes[length..]))
 }
 
 /// What stands behind the padding of a value of a length.
-pub fn skip_padding(bytes: &[u8], length: usize) -> Result<&[u8], Code> {
-    let (_, rest) = take(bytes, (4 - length % 4) % 4)?;
+pub fn skip_padding(bytes: &[u8], size: usize) -> Result<&[u8], Code>
+    ensures exact { Answers (λ x. x.now) result (unpadded size bytes.now) }
+    ensures short { IfOk result (λ x. length x.now ≤ length bytes.now) }
+{
+    let (_, rest) = take(bytes, (4 - size % 4) % 4)?;
     Ok(rest)
 }
 
-/// Appends a FULLDATA with its padding, whose value is at most 65,531 bytes long.
-pub fn write_full_data(value: &[u8], into: &mut Vec<u8>) -> Result<(), Memory> {
-    let length = value.len() % 65_536 + 4;
+// Appends the zeros that a length lacks to a multiple of four.
+#[tactic(auto, unfolding(fc_wire::specs::Writing::padding))]
+fn write_padding(size: usize, into: &mut Vec<u8>) -> Result<(), Memory>
+    ensures { OnOk result (into.new.items ≡ into.old.items ++ padding size) }
+{
     let zeros = [0u8; 3];
-    into.extend_from_slice(&[1, 18, (length / 256 % 256) as u8, (length % 256) as u8])?;
-    into.extend_from_slice(value)?;
-    into.extend_from_slice(&zeros[..(4 - value.len() % 4) % 4])?;
+    into.extend_from_slice(&zeros[..(4 - size % 4) % 4])?;
     Ok(())
+}
+
+/// Appends a FULLDATA with its padding, whose value is at most 65,531 bytes long.
+#[tactic(auto, unfolding(crate::specs::Writing::full_data))]
+pub fn write_full_data(value: &[u8], into: &mut Vec<u8>) -> Result<(), Memory>
+    ensures { OnOk result (into.new.items ≡ into.old.items ++ full_data value.now) }
+{
+    let size = value.len() + 4;
+    into.extend_from_slice(&[1, 18, (size / 256 % 256) as u8, (size % 256) as u8])?;
+    into.extend_from_slice(value)?;
+    write_padding(value.len(), into)
 }

@@ -1,12 +1,18 @@
 // Reading values in the full form.
+ghost use Rattle.std.specs.Prelude.{◌≡◌, ◌≤◌, ◌<◌, [], map, length, IfOk};
+ghost use Rattle.fc_types.specs.Types.{fields_of as fields_in};
+ghost use Rattle.fc_value.specs.Outcomes.{Gives};
+ghost use Rattle.fc_value.specs.Reading.{full_in, inside, inside_at, each_in, table_of, entries_in, entry_in};
+
 use crate::Value;
 use crate::key::keys_differ;
 use crate::number::read_number;
 use crate::parts::{
-    cut_full_data, read_fixed, read_octets, read_subscript, read_text, read_truth, skip_padding,
+    cut_full_data, read_fixed, read_octets, read_text, read_truth, skip_padding,
 };
 use fc_base::{Code, List, Memory, OpFault};
 use fc_types::{Field, KeyDecl, Ty, fields_of};
+use fc_wire::read_u32;
 use std::alloc::Global;
 use std::collections::BTreeMap;
 
@@ -15,12 +21,17 @@ use std::collections::BTreeMap;
 /// `INVALID_PARAMETERS` where a text is not UTF-8; `VALUE_OUT_OF_RANGE` where a value is none of its type, or an array has
 /// more entries than it may; after the last entry of an array, `INVALID_PARAMETERS` where two have an equal key; and last
 /// of all `INVALID_TLV` where bytes are left over.
-pub fn read_full(alloc: Global, ty: &Ty, bytes: &[u8]) -> Result<Value, OpFault> {
+pub fn read_full(alloc: Global, ty: &Ty, bytes: &[u8]) -> Result<Value, OpFault>
+    ensures exact { Gives (λ v. v) result (full_in ty.now bytes.now) }
+{
     read_whole(alloc, ty, bytes)
 }
 
 /// The value of which the bytes are the full form, as a value that stands by itself.
-pub fn read_whole(alloc: Global, ty: &Ty, bytes: &[u8]) -> Result<Value, OpFault> {
+#[tactic(auto, unfolding(crate::specs::Reading::full_in))]
+pub fn read_whole(alloc: Global, ty: &Ty, bytes: &[u8]) -> Result<Value, OpFault>
+    ensures { Gives (λ v. v) result (full_in ty.now bytes.now) }
+{
     match ty {
         Ty::String { length } => read_text(alloc, bytes, *length),
         Ty::Octets { length } => read_octets(alloc, bytes, *length),
@@ -41,11 +52,15 @@ pub fn read_whole(alloc: Global, ty: &Ty, bytes: &[u8]) -> Result<Value, OpFault
 
 // The value at the front of what a struct or an entry has, and what stands behind it.
 #[cycle(read)]
+#[tactic(auto, unfolding(crate::specs::Reading::inside, crate::specs::Reading::inside_at))]
 fn read_inside<'a>(
     alloc: Global,
     ty: &Ty,
     bytes: &'a [u8],
-) -> Result<(Value, &'a [u8]), OpFault> {
+) -> Result<(Value, &'a [u8]), OpFault>
+    ensures exact { Gives (λ x. (x.0, x.1.now)) result (inside ty.now bytes.now) }
+    ensures short { IfOk result (λ x. length x.1.now ≤ length bytes.now) }
+{
     match ty {
         Ty::Bool => Ok(read_truth(bytes)?),
         Ty::Number {
@@ -83,11 +98,15 @@ fn read_inside<'a>(
 
 // One value of each field, and what stands behind them.
 #[cycle(read)]
+#[tactic(auto, unfolding(crate::specs::Reading::inside, crate::specs::Reading::inside_at))]
 fn read_fields<'a>(
     alloc: Global,
     fields: &List<Field>,
     bytes: &'a [u8],
-) -> Result<(List<Value>, &'a [u8]), OpFault> {
+) -> Result<(List<Value>, &'a [u8]), OpFault>
+    ensures exact { Gives (λ x. (x.0, x.1.now)) result (each_in (map inside_at fields.now) bytes.now) }
+    ensures short { IfOk result (λ x. length x.1.now ≤ length bytes.now) }
+{
     let mut values = List::new(alloc);
     let mut rest = bytes;
     for field in fields.as_slice() {
@@ -106,7 +125,9 @@ fn read_table(
     limit: u32,
     keys: &[KeyDecl],
     bytes: &[u8],
-) -> Result<Value, OpFault> {
+) -> Result<Value, OpFault>
+    ensures { Gives (λ v. v) result (table_of (inside entry.now) (fields_in entry.now) limit keys.now bytes.now) }
+{
     let entries = listed(alloc, read_entries(alloc, entry, limit, bytes)?)?;
     if !keys_differ(alloc, fields_of(entry), keys, entries.as_slice())? {
         return Err(OpFault::Refused(Code::INVALID_PARAMETERS));
@@ -115,9 +136,11 @@ fn read_table(
 }
 
 // The entries by rising subscript.
-fn listed(alloc: Global, map: BTreeMap<u32, Value>) -> Result<List<(u32, Value)>, Memory> {
+fn listed(alloc: Global, found: BTreeMap<u32, Value>) -> Result<List<(u32, Value)>, Memory>
+    ensures { IfOk result (λ entries. entries ≡ found.entries) }
+{
     let mut entries = List::new(alloc);
-    for entry in map {
+    for entry in found {
         entries.push(entry)?;
     }
     Ok(entries)
@@ -130,7 +153,9 @@ fn read_entries(
     entry: &Ty,
     limit: u32,
     bytes: &[u8],
-) -> Result<BTreeMap<u32, Value>, OpFault> {
+) -> Result<BTreeMap<u32, Value>, OpFault>
+    ensures { Gives (λ found. found.entries) result (entries_in (inside entry.now) limit [] bytes.now) }
+{
     let mut entries = BTreeMap::new(alloc);
     let mut rest = bytes;
     while !rest.is_empty() {
@@ -141,14 +166,22 @@ fn read_entries(
 
 // One entry more, and what stands behind it.
 #[cycle(read)]
+#[tactic(auto, unfolding(crate::specs::Reading::entry_in))]
 fn read_entry<'a>(
     alloc: Global,
     entry: &Ty,
     limit: u32,
     bytes: &'a [u8],
     entries: &mut BTreeMap<u32, Value>,
-) -> Result<&'a [u8], OpFault> {
-    let (subscript, behind) = read_subscript(bytes)?;
+) -> Result<&'a [u8], OpFault>
+    ensures exact { Gives (λ rest. (entries.new.entries, rest.now)) result (entry_in (inside entry.now) limit entries.old.entries bytes.now) }
+    ensures short { IfOk result (λ rest. length rest.now < length bytes.now) }
+{
+    if bytes.len() < 4 {
+        return Err(OpFault::Refused(Code::INVALID_TLV));
+    }
+    let subscript = read_u32(bytes, 0);
+    let (_, behind) = bytes.split_at(4);
     if entries.contains_key(&subscript) {
         return Err(OpFault::Refused(Code::INVALID_TLV));
     }

@@ -1,4 +1,9 @@
 // Reading values in the sparse form.
+ghost use Rattle.std.specs.Prelude.{◌≡◌, ℕ, [], ◌∷◌, option_map, is_some, OnOk};
+ghost use Rattle.fc_value.specs.Outcomes.{Gives};
+ghost use Rattle.fc_value.specs.Sparse as spec;
+ghost use Rattle.fc_value.specs.Sparse.{sparse_in, value_of};
+
 use crate::Value;
 use crate::read::read_whole;
 use fc_base::{Code, List, OpFault};
@@ -8,7 +13,9 @@ use std::alloc::Global;
 use std::collections::BTreeSet;
 
 // The type of a field of a struct, or of an entry of an array.
-fn part_of(ty: &Ty, ident: u32) -> Option<&Ty> {
+fn part_of(ty: &Ty, ident: u32) -> Option<&Ty>
+    ensures { option_map (λ part. part.now) result ≡ spec.part_of ty.now ident }
+{
     match ty {
         Ty::Struct { fields } => match with_id(fields.as_slice(), ident) {
             Some(field) => Some(&field.ty),
@@ -26,30 +33,29 @@ pub fn read_sparse(
     alloc: Global,
     ty: &Ty,
     ilvs: &[Ilv],
-) -> Result<List<(u32, Value)>, OpFault> {
+) -> Result<List<(u32, Value)>, OpFault>
+    ensures exact { Gives (λ changes. changes) result (sparse_in ty.now ilvs.now) }
+{
     if is_atom(ty) {
         return Err(OpFault::Refused(Code::INVALID_TLV));
     }
     let mut seen = BTreeSet::new(alloc);
     let mut changes = List::new(alloc);
     for ilv in ilvs {
-        let value = read_change(alloc, ty, ilv, &mut seen)?;
+        if seen.contains(&ilv.ident) {
+            return Err(OpFault::Refused(Code::INVALID_TLV));
+        }
+        let value = read_change(alloc, ty, ilv)?;
+        seen.insert(ilv.ident)?;
         changes.push((ilv.ident, value))?;
     }
     Ok(changes)
 }
 
-// The value of one ILV, whose identifier is seen from then on.
-fn read_change(
-    alloc: Global,
-    ty: &Ty,
-    ilv: &Ilv,
-    seen: &mut BTreeSet<u32>,
-) -> Result<Value, OpFault> {
-    if seen.contains(&ilv.ident) {
-        return Err(OpFault::Refused(Code::INVALID_TLV));
-    }
-    seen.insert(ilv.ident)?;
+// The value of one ILV.
+fn read_change(alloc: Global, ty: &Ty, ilv: &Ilv) -> Result<Value, OpFault>
+    ensures { Gives (λ v. v) result (value_of (spec.part_of ty.now ilv.now.ident) ilv.now.value) }
+{
     match part_of(ty, ilv.ident) {
         None => Err(OpFault::Refused(Code::INVALID_TLV)),
         Some(part) => read_whole(alloc, part, ilv.value.as_slice()),

@@ -1,0 +1,4 @@
+pub mod Conditions
+pub mod Digits
+pub mod Distinct
+pub mod Rising
