@@ -36,3 +36,9 @@ true_or_false false = inr refl
 pub not_true : (b : Bool) → (b ≡ true → ⊥) → b ≡ false
 not_true true h = absurd (h refl)
 not_true false h = refl
+
+pub some_left : (n : ℕ) → false ≡ (n == 0) → 0 < n
+some_left n e = grind arith
+
+pub none_left : (n : ℕ) → true ≡ (n == 0) → n ≡ 0
+none_left n e = grind arith

@@ -1,4 +1,6 @@
 pub mod Conditions
 pub mod Digits
 pub mod Distinct
+pub mod Layers
+pub mod Shrinking
 pub mod Rising

@@ -64,9 +64,13 @@ cut bytes =
 abbrev pub unpadded : ℕ → List ℕ → Result (List ℕ) ℕ
 unpadded n bytes = taken ((4 - n % 4) % 4) bytes >>= λ x. Ok x.1
 
+-- a value of a length, with what stands behind its padding
+abbrev pub closed : Value → ℕ → Reader
+closed v n bytes = unpadded n bytes >>= λ rest. Ok (v, rest)
+
 -- a value in a FULLDATA of its own
 abbrev pub held : (List ℕ → Result Value ℕ) → Reader
-held one bytes = cut bytes >>= λ x. one x.0 >>= λ v. unpadded (length x.0) x.1 >>= λ rest. Ok (v, rest)
+held one bytes = cut bytes >>= λ x. one x.0 >>= λ v. closed v (length x.0) x.1
 
 -- one value after the other
 abbrev pub each_in : List Reader → List ℕ → Result (List Value × List ℕ) ℕ

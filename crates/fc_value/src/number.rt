@@ -1,5 +1,5 @@
 // Numbers and their bytes: unsigned, or in two's complement.
-ghost use Rattle.std.specs.Prelude.{◌≡◌, ◌≤◌, ◌<◌, ◌++◌, ◌*◌, ◌^◌, ◌-◌, ◌%◌, pos, true, length, OnOk};
+ghost use Rattle.std.specs.Prelude.{◌≡◌, ◌≤◌, ◌<◌, ◌++◌, ◌*◌, ◌^◌, ◌-◌, ◌%◌, pos, true, length, IfOk, OnOk};
 ghost use Rattle.fc_value.specs.Numbers as spec;
 ghost use Rattle.fc_value.specs.Outcomes.{Gives};
 ghost use Rattle.fc_value.specs.Reading.{number_in};
@@ -63,7 +63,8 @@ pub fn read_number(
     min: i128,
     max: i128,
 ) -> Result<(Value, &[u8]), OpFault>
-    ensures { Gives (λ x. (x.0, x.1.now)) result (number_in width signed min max bytes.now) }
+    ensures exact { Gives (λ x. (x.0, x.1.now)) result (number_in width signed min max bytes.now) }
+    ensures short { IfOk result (λ x. length x.1.now ≤ length bytes.now) }
 {
     let width = usize::from(width);
     if !is_width(width) {

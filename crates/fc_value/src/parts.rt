@@ -1,8 +1,8 @@
 // Parts of bytes that hold values.
 ghost use Rattle.std.specs.Prelude.{◌≡◌, ◌++◌, ◌+◌, ◌-◌, ◌%◌, ◌≤◌, ◌<◌, length, IfOk, OnOk};
 ghost use Rattle.fc_wire.specs.Bytes.{u32_at};
-ghost use Rattle.fc_value.specs.Outcomes.{Answers, Gives};
-ghost use Rattle.fc_value.specs.Reading.{taken, truth_in, fixed_in, text_of, octets_of, cut, unpadded};
+ghost use Rattle.fc_value.specs.Outcomes.{Gives};
+ghost use Rattle.fc_value.specs.Reading.{taken, truth_in, fixed_in, text_of, octets_of, cut, unpadded, closed, held};
 ghost use Rattle.fc_wire.specs.Writing.{padding};
 ghost use Rattle.fc_value.specs.Writing.{full_data};
 
@@ -14,27 +14,27 @@ use std::alloc::Global;
 const FULL_DATA: u16 = 0x0112;
 
 /// So many bytes at the front, and what stands behind them.
-pub fn take(bytes: &[u8], count: usize) -> Result<(&[u8], &[u8]), Code>
-    ensures exact { Answers (λ x. (x.0.now, x.1.now)) result (taken count bytes.now) }
+pub fn take(bytes: &[u8], count: usize) -> Result<(&[u8], &[u8]), OpFault>
+    ensures exact { Gives (λ x. (x.0.now, x.1.now)) result (taken count bytes.now) }
     ensures front { IfOk result (λ x. length x.0.now ≡ count) }
     ensures rest { IfOk result (λ x. length x.1.now + count ≡ length bytes.now) }
 {
     if bytes.len() < count {
-        return Err(Code::INVALID_TLV);
+        return Err(OpFault::Refused(Code::INVALID_TLV));
     }
     Ok(bytes.split_at(count))
 }
 
 /// The truth value at the front, and what stands behind it.
-pub fn read_truth(bytes: &[u8]) -> Result<(Value, &[u8]), Code>
-    ensures exact { Answers (λ x. (x.0, x.1.now)) result (truth_in bytes.now) }
+pub fn read_truth(bytes: &[u8]) -> Result<(Value, &[u8]), OpFault>
+    ensures exact { Gives (λ x. (x.0, x.1.now)) result (truth_in bytes.now) }
     ensures short { IfOk result (λ x. length x.1.now ≤ length bytes.now) }
 {
     match bytes {
-        [] => Err(Code::INVALID_TLV),
+        [] => Err(OpFault::Refused(Code::INVALID_TLV)),
         [0, rest @ ..] => Ok((Value::Truth(false), rest)),
         [1, rest @ ..] => Ok((Value::Truth(true), rest)),
-        [_, ..] => Err(Code::VALUE_OUT_OF_RANGE),
+        [_, ..] => Err(OpFault::Refused(Code::VALUE_OUT_OF_RANGE)),
     }
 }
 
@@ -74,30 +74,69 @@ pub fn read_octets(alloc: Global, bytes: &[u8], limit: u32) -> Result<Value, OpF
 
 /// The value of the FULLDATA at the front, and what stands behind it, which begins with its padding.
 #[tactic(auto, unfolding(crate::specs::Reading::cut))]
-pub fn cut_full_data(bytes: &[u8]) -> Result<(&[u8], &[u8]), Code>
-    ensures exact { Answers (λ x. (x.0.now, x.1.now)) result (cut bytes.now) }
+pub fn cut_full_data(bytes: &[u8]) -> Result<(&[u8], &[u8]), OpFault>
+    ensures exact { Gives (λ x. (x.0.now, x.1.now)) result (cut bytes.now) }
     ensures short { IfOk result (λ x. length x.1.now ≤ length bytes.now) }
 {
     if bytes.len() < 4 {
-        return Err(Code::INVALID_TLV);
+        return Err(OpFault::Refused(Code::INVALID_TLV));
     }
     let length = usize::from(read_u16(bytes, 2));
     if read_u16(bytes, 0) != FULL_DATA || length < 4 {
-        return Err(Code::INVALID_TLV);
+        return Err(OpFault::Refused(Code::INVALID_TLV));
     }
     if bytes.len() < length {
-        return Err(Code::INVALID_TLV);
+        return Err(OpFault::Refused(Code::INVALID_TLV));
     }
     Ok((&bytes[4..length], &bytes[length..]))
 }
 
 /// What stands behind the padding of a value of a length.
-pub fn skip_padding(bytes: &[u8], size: usize) -> Result<&[u8], Code>
-    ensures exact { Answers (λ x. x.now) result (unpadded size bytes.now) }
+pub fn skip_padding(bytes: &[u8], size: usize) -> Result<&[u8], OpFault>
+    ensures exact { Gives (λ x. x.now) result (unpadded size bytes.now) }
     ensures short { IfOk result (λ x. length x.now ≤ length bytes.now) }
 {
     let (_, rest) = take(bytes, (4 - size % 4) % 4)?;
     Ok(rest)
+}
+
+/// The value of a size, with what stands behind its padding.
+pub fn close(value: Value, bytes: &[u8], size: usize) -> Result<(Value, &[u8]), OpFault>
+    ensures exact { Gives (λ x. (x.0, x.1.now)) result (closed value size bytes.now) }
+    ensures short { IfOk result (λ x. length x.1.now ≤ length bytes.now) }
+{
+    match skip_padding(bytes, size) {
+        Ok(rest) => Ok((value, rest)),
+        Err(fault) => Err(fault),
+    }
+}
+
+/// The text of at most so many bytes in the FULLDATA at the front, and what stands behind it.
+pub fn read_held_text(
+    alloc: Global,
+    bytes: &[u8],
+    limit: u32,
+) -> Result<(Value, &[u8]), OpFault>
+    ensures exact { Gives (λ x. (x.0, x.1.now)) result (held (text_of limit) bytes.now) }
+    ensures short { IfOk result (λ x. length x.1.now ≤ length bytes.now) }
+{
+    let (body, behind) = cut_full_data(bytes)?;
+    let value = read_text(alloc, body, limit)?;
+    close(value, behind, body.len())
+}
+
+/// The octets, at most so many, in the FULLDATA at the front, and what stands behind it.
+pub fn read_held_octets(
+    alloc: Global,
+    bytes: &[u8],
+    limit: u32,
+) -> Result<(Value, &[u8]), OpFault>
+    ensures exact { Gives (λ x. (x.0, x.1.now)) result (held (octets_of limit) bytes.now) }
+    ensures short { IfOk result (λ x. length x.1.now ≤ length bytes.now) }
+{
+    let (body, behind) = cut_full_data(bytes)?;
+    let value = read_octets(alloc, body, limit)?;
+    close(value, behind, body.len())
 }
 
 // Appends the zeros that a length lacks to a multiple of four.

@@ -2,13 +2,14 @@
 ghost use Rattle.std.specs.Prelude.{◌≡◌, ◌≤◌, ◌<◌, [], map, length, IfOk};
 ghost use Rattle.fc_types.specs.Types.{fields_of as fields_in};
 ghost use Rattle.fc_value.specs.Outcomes.{Gives};
-ghost use Rattle.fc_value.specs.Reading.{full_in, inside, inside_at, each_in, table_of, entries_in, entry_in};
+ghost use Rattle.fc_value.specs.Reading.{full_in, inside, inside_at, each_in, group_in, held, table_of, entries_in, entry_in};
 
 use crate::Value;
 use crate::key::keys_differ;
 use crate::number::read_number;
 use crate::parts::{
-    cut_full_data, read_fixed, read_octets, read_text, read_truth, skip_padding,
+    close, cut_full_data, read_fixed, read_held_octets, read_held_text, read_octets, read_text,
+    read_truth,
 };
 use fc_base::{Code, List, Memory, OpFault};
 use fc_types::{Field, KeyDecl, Ty, fields_of};
@@ -52,7 +53,6 @@ pub fn read_whole(alloc: Global, ty: &Ty, bytes: &[u8]) -> Result<Value, OpFault
 
 // The value at the front of what a struct or an entry has, and what stands behind it.
 #[cycle(read)]
-#[tactic(auto, unfolding(crate::specs::Reading::inside, crate::specs::Reading::inside_at))]
 fn read_inside<'a>(
     alloc: Global,
     ty: &Ty,
@@ -62,43 +62,58 @@ fn read_inside<'a>(
     ensures short { IfOk result (λ x. length x.1.now ≤ length bytes.now) }
 {
     match ty {
-        Ty::Bool => Ok(read_truth(bytes)?),
+        Ty::Bool => read_truth(bytes),
         Ty::Number {
             bytes: width,
             signed,
             min,
             max,
         } => read_number(bytes, *width, *signed, *min, *max),
+        Ty::String { length } => read_held_text(alloc, bytes, *length),
+        Ty::Octets { length } => read_held_octets(alloc, bytes, *length),
         Ty::Bytes { length } => read_fixed(alloc, bytes, *length),
-        Ty::Struct { fields } => {
-            let (values, rest) = read_fields(alloc, fields, bytes)?;
-            Ok((Value::Group(values), rest))
-        }
-        Ty::String { length } => {
-            let (body, behind) = cut_full_data(bytes)?;
-            let value = read_text(alloc, body, *length)?;
-            Ok((value, skip_padding(behind, body.len())?))
-        }
-        Ty::Octets { length } => {
-            let (body, behind) = cut_full_data(bytes)?;
-            let value = read_octets(alloc, body, *length)?;
-            Ok((value, skip_padding(behind, body.len())?))
-        }
+        Ty::Struct { fields } => read_group(alloc, fields, bytes),
         Ty::Array {
             entry,
             entries,
             keys,
-        } => {
-            let (body, behind) = cut_full_data(bytes)?;
-            let value = read_table(alloc, entry.get(), *entries, keys.as_slice(), body)?;
-            Ok((value, skip_padding(behind, body.len())?))
-        }
+        } => read_held_table(alloc, entry.get(), *entries, keys.as_slice(), bytes),
     }
+}
+
+// A struct, and what stands behind it.
+#[cycle(read)]
+fn read_group<'a>(
+    alloc: Global,
+    fields: &List<Field>,
+    bytes: &'a [u8],
+) -> Result<(Value, &'a [u8]), OpFault>
+    ensures exact { Gives (λ x. (x.0, x.1.now)) result (group_in (map inside_at fields.now) bytes.now) }
+    ensures short { IfOk result (λ x. length x.1.now ≤ length bytes.now) }
+{
+    let (values, rest) = read_fields(alloc, fields, bytes)?;
+    Ok((Value::Group(values), rest))
+}
+
+// An array in the FULLDATA at the front, and what stands behind it.
+#[cycle(read)]
+fn read_held_table<'a>(
+    alloc: Global,
+    entry: &Ty,
+    limit: u32,
+    keys: &[KeyDecl],
+    bytes: &'a [u8],
+) -> Result<(Value, &'a [u8]), OpFault>
+    ensures exact { Gives (λ x. (x.0, x.1.now)) result (held (table_of (inside entry.now) (fields_in entry.now) limit keys.now) bytes.now) }
+    ensures short { IfOk result (λ x. length x.1.now ≤ length bytes.now) }
+{
+    let (body, behind) = cut_full_data(bytes)?;
+    let value = read_table(alloc, entry, limit, keys, body)?;
+    close(value, behind, body.len())
 }
 
 // One value of each field, and what stands behind them.
 #[cycle(read)]
-#[tactic(auto, unfolding(crate::specs::Reading::inside, crate::specs::Reading::inside_at))]
 fn read_fields<'a>(
     alloc: Global,
     fields: &List<Field>,

@@ -9,8 +9,8 @@ invariant-read_fields-loop-field l = record {
   short : length l.rest ≤ length l.bytes;
 }
 
-abbrev pub invariant-read_entries-loop : goal.invariant-read_entries-loop
-invariant-read_entries-loop l = entries_in (inside l.entry) l.limit l.entries.entries l.rest ≡ entries_in (inside l.entry) l.limit [] l.bytes
+abbrev pub invariant-read_entries-loop-rest : goal.invariant-read_entries-loop-rest
+invariant-read_entries-loop-rest l = entries_in (inside l.entry) l.limit l.entries.entries l.rest ≡ entries_in (inside l.entry) l.limit [] l.bytes
 
-abbrev pub decreases-read_entries-loop : goal.decreases-read_entries-loop
-decreases-read_entries-loop l = length l.rest
+abbrev pub decreases-read_entries-loop-rest : goal.decreases-read_entries-loop-rest
+decreases-read_entries-loop-rest l = length l.rest
