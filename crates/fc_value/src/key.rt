@@ -10,11 +10,7 @@ use fc_types::{Field, KeyDecl, Ty};
 use std::alloc::Global;
 
 // The type and the value of the field with an ID.
-fn field_with<'a>(
-    fields: &'a [Field],
-    values: &'a [Value],
-    id: u32,
-) -> Option<(&'a Ty, &'a Value)>
+fn field_with<'a>(fields: &'a [Field], values: &'a [Value], id: u32) -> Option<(&'a Ty, &'a Value)>
     ensures { option_map (λ x. (x.0.now, x.1.now)) result ≡ spec.field_with fields.now values.now id }
 {
     let mut rest = values;
@@ -48,12 +44,7 @@ fn write_alone(
 }
 
 // Appends the value of a field that stands in a struct.
-fn write_one(
-    fields: &[Field],
-    values: &[Value],
-    id: u32,
-    into: &mut Vec<u8>,
-) -> Result<(), Memory>
+fn write_one(fields: &[Field], values: &[Value], id: u32, into: &mut Vec<u8>) -> Result<(), Memory>
     ensures { OnOk result (into.new.items ≡ into.old.items ++ spec.some_bytes inside_bytes (spec.field_with fields.now values.now id)) }
 {
     match field_with(fields, values, id) {
@@ -105,12 +96,7 @@ pub fn key_value(
 {
     let mut bytes = Vec::new(alloc);
     if let Value::Group(values) = entry {
-        write_key(
-            fields,
-            values.as_slice(),
-            key.fields.as_slice(),
-            &mut bytes,
-        )?;
+        write_key(fields, values.as_slice(), key.fields.as_slice(), &mut bytes)?;
     }
     Ok(bytes)
 }

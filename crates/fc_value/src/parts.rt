@@ -112,11 +112,7 @@ pub fn close(value: Value, bytes: &[u8], size: usize) -> Result<(Value, &[u8]), 
 }
 
 /// The text of at most so many bytes in the FULLDATA at the front, and what stands behind it.
-pub fn read_held_text(
-    alloc: Global,
-    bytes: &[u8],
-    limit: u32,
-) -> Result<(Value, &[u8]), OpFault>
+pub fn read_held_text(alloc: Global, bytes: &[u8], limit: u32) -> Result<(Value, &[u8]), OpFault>
     ensures exact { Gives (λ x. (x.0, x.1.now)) result (held (text_of limit) bytes.now) }
     ensures short { IfOk result (λ x. length x.1.now ≤ length bytes.now) }
 {
@@ -126,11 +122,7 @@ pub fn read_held_text(
 }
 
 /// The octets, at most so many, in the FULLDATA at the front, and what stands behind it.
-pub fn read_held_octets(
-    alloc: Global,
-    bytes: &[u8],
-    limit: u32,
-) -> Result<(Value, &[u8]), OpFault>
+pub fn read_held_octets(alloc: Global, bytes: &[u8], limit: u32) -> Result<(Value, &[u8]), OpFault>
     ensures exact { Gives (λ x. (x.0, x.1.now)) result (held (octets_of limit) bytes.now) }
     ensures short { IfOk result (λ x. length x.1.now ≤ length bytes.now) }
 {

@@ -53,11 +53,7 @@ pub fn read_whole(alloc: Global, ty: &Ty, bytes: &[u8]) -> Result<Value, OpFault
 
 // The value at the front of what a struct or an entry has, and what stands behind it.
 #[cycle(read)]
-fn read_inside<'a>(
-    alloc: Global,
-    ty: &Ty,
-    bytes: &'a [u8],
-) -> Result<(Value, &'a [u8]), OpFault>
+fn read_inside<'a>(alloc: Global, ty: &Ty, bytes: &'a [u8]) -> Result<(Value, &'a [u8]), OpFault>
     ensures exact { Gives (λ x. (x.0, x.1.now)) result (inside ty.now bytes.now) }
     ensures short { IfOk result (λ x. length x.1.now ≤ length bytes.now) }
 {

@@ -1,5 +1,6 @@
 // Reading values in the sparse form.
-ghost use Rattle.std.specs.Prelude.{◌≡◌, ℕ, [], ◌∷◌, option_map, is_some, OnOk};
+ghost use Rattle.std.specs.Prelude.{◌≡◌, ◌==◌, option_map, find};
+ghost use Rattle.fc_types.specs.Types.{field_id, field_ty};
 ghost use Rattle.fc_value.specs.Outcomes.{Gives};
 ghost use Rattle.fc_value.specs.Sparse as spec;
 ghost use Rattle.fc_value.specs.Sparse.{sparse_in, value_of};
@@ -7,20 +8,27 @@ ghost use Rattle.fc_value.specs.Sparse.{sparse_in, value_of};
 use crate::Value;
 use crate::read::read_whole;
 use fc_base::{Code, List, OpFault};
-use fc_types::{Ty, is_atom, with_id};
+use fc_types::{Field, Ty, is_atom, with_id};
 use fc_wire::Ilv;
 use std::alloc::Global;
 use std::collections::BTreeSet;
+
+// The type of the field with an ID.
+fn type_with(fields: &[Field], id: u32) -> Option<&Ty>
+    ensures { option_map (λ part. part.now) result ≡ option_map field_ty (find (λ f. field_id f == id) fields.now) }
+{
+    match with_id(fields, id) {
+        Some(field) => Some(&field.ty),
+        None => None,
+    }
+}
 
 // The type of a field of a struct, or of an entry of an array.
 fn part_of(ty: &Ty, ident: u32) -> Option<&Ty>
     ensures { option_map (λ part. part.now) result ≡ spec.part_of ty.now ident }
 {
     match ty {
-        Ty::Struct { fields } => match with_id(fields.as_slice(), ident) {
-            Some(field) => Some(&field.ty),
-            None => None,
-        },
+        Ty::Struct { fields } => type_with(fields.as_slice(), ident),
         Ty::Array { entry, .. } => Some(entry.get()),
         _ => None,
     }
@@ -29,11 +37,8 @@ fn part_of(ty: &Ty, ident: u32) -> Option<&Ty>
 /// The new values of the fields of a struct, or of the entries of an array, that ILVs name, in their order. In the order
 /// of the ILVs, `INVALID_TLV` where an identifier is repeated or is no field, and then the code of the value;
 /// `INVALID_TLV` where the type is neither a struct nor an array.
-pub fn read_sparse(
-    alloc: Global,
-    ty: &Ty,
-    ilvs: &[Ilv],
-) -> Result<List<(u32, Value)>, OpFault>
+#[tactic(auto, unfolding(crate::specs::Sparse::sparse_in))]
+pub fn read_sparse(alloc: Global, ty: &Ty, ilvs: &[Ilv]) -> Result<List<(u32, Value)>, OpFault>
     ensures exact { Gives (λ changes. changes) result (sparse_in ty.now ilvs.now) }
 {
     if is_atom(ty) {

@@ -165,11 +165,7 @@ fn two_entries(alloc: Global, first: (u32, Value), second: (u32, Value)) -> Resu
 }
 
 fn two_words(alloc: Global, first: u32, second: u32) -> Result<Value, Memory> {
-    two_entries(
-        alloc,
-        (first, Value::Number(7)),
-        (second, Value::Number(8)),
-    )
+    two_entries(alloc, (first, Value::Number(7)), (second, Value::Number(8)))
 }
 
 fn keyed_value(alloc: Global) -> Result<Value, Memory> {
@@ -233,7 +229,10 @@ fn values_and_their_bytes(rt: HostRuntime) -> Result<(), Fail> {
         let ty = ty_of(alloc, kind)?;
         let value = value_of(alloc, kind)?;
         let bytes = bytes_of(alloc, digits)?;
-        assert!(rt; read_full(alloc, &ty, &bytes) == Ok(value.copy()?), "{digits}");
+        assert!(rt;
+            read_full(alloc, &ty, &bytes) == Ok(value.copy()?),
+            "{digits}"
+        );
         let mut written = bytes_of(alloc, "AA")?;
         write_full(&ty, &value, &mut written)?;
         assert_eq!(rt; &written[1..], bytes.as_slice(), "{digits}");
@@ -265,7 +264,10 @@ fn numbers_at_their_ends(rt: HostRuntime) -> Result<(), Fail> {
     for (bytes, signed, end, digits) in rows {
         let ty = number(bytes, signed, end, end);
         let spelled = bytes_of(alloc, digits)?;
-        assert!(rt; read_full(alloc, &ty, &spelled) == Ok(Value::Number(end)), "{digits}");
+        assert!(rt;
+            read_full(alloc, &ty, &spelled) == Ok(Value::Number(end)),
+            "{digits}"
+        );
         let mut written = Vec::new(alloc);
         write_full(&ty, &Value::Number(end), &mut written)?;
         assert_eq!(rt; written, spelled, "{digits}");
@@ -292,7 +294,10 @@ fn other_bytes_of_values(rt: HostRuntime) -> Result<(), Fail> {
     for (kind, digits) in rows {
         let ty = ty_of(alloc, kind)?;
         let bytes = bytes_of(alloc, digits)?;
-        assert!(rt; read_full(alloc, &ty, &bytes) == Ok(value_of(alloc, kind)?), "{digits}");
+        assert!(rt;
+            read_full(alloc, &ty, &bytes) == Ok(value_of(alloc, kind)?),
+            "{digits}"
+        );
     }
     Ok(())
 }
@@ -419,7 +424,10 @@ fn codes_and_their_causes(rt: HostRuntime) -> Result<(), Fail> {
     for (kind, digits, code) in rows {
         let ty = ty_of(alloc, kind)?;
         let bytes = bytes_of(alloc, digits)?;
-        assert!(rt; read_full(alloc, &ty, &bytes) == Err(OpFault::Refused(code)), "{digits}");
+        assert!(rt;
+            read_full(alloc, &ty, &bytes) == Err(OpFault::Refused(code)),
+            "{digits}"
+        );
     }
     Ok(())
 }
@@ -494,7 +502,10 @@ fn codes_of_parts(rt: HostRuntime) -> Result<(), Fail> {
         let ty = ty_of(alloc, kind)?;
         let given = ilvs(alloc, first, second)?;
         let (_, digits) = first;
-        assert!(rt; read_sparse(alloc, &ty, &given) == Err(OpFault::Refused(code)), "{digits}");
+        assert!(rt;
+            read_sparse(alloc, &ty, &given) == Err(OpFault::Refused(code)),
+            "{digits}"
+        );
     }
     assert!(rt; read_sparse(alloc, &Ty::Bool, &[]) == Err(OpFault::Refused(Code::INVALID_TLV)));
     Ok(())
@@ -507,9 +518,18 @@ fn opening_values(rt: HostRuntime) -> Result<(), Fail> {
         let value = first(alloc, &number(1, true, min, max))?;
         assert_eq!(rt; value, Value::Number(nearest));
     }
-    assert_eq!(rt; first(alloc, &port(alloc)?)?, port_value(alloc, "", 0, false)?);
-    assert_eq!(rt; first(alloc, &keyed(alloc)?)?, Value::Table(List::new(alloc)));
-    assert_eq!(rt; first(alloc, &Ty::Bytes { length: 2 })?, raw(alloc, "0000")?);
+    assert_eq!(rt;
+        first(alloc, &port(alloc)?)?,
+        port_value(alloc, "", 0, false)?
+    );
+    assert_eq!(rt;
+        first(alloc, &keyed(alloc)?)?,
+        Value::Table(List::new(alloc))
+    );
+    assert_eq!(rt;
+        first(alloc, &Ty::Bytes { length: 2 })?,
+        raw(alloc, "0000")?
+    );
     assert_eq!(rt; first(alloc, &Ty::Octets { length: 2 })?, raw(alloc, "")?);
     Ok(())
 }
@@ -540,7 +560,11 @@ fn keys_of_entries(rt: HostRuntime) -> Result<(), Fail> {
     let alloc = rt.alloc();
     let fields = two(alloc, number(1, false, 0, 255), Ty::String { length: 5 })?;
     let entry = pair_value(alloc, Value::Number(5), text(alloc, "a")?)?;
-    let rows: [(&[u32], &str); 3] = [(&[1], "05"), (&[2], "61"), (&[2, 1], "01120005 61000000 05")];
+    let rows: [(&[u32], &str); 3] = [
+        (&[1], "05"),
+        (&[2], "61"),
+        (&[2, 1], "01120005 61000000 05"),
+    ];
     for (ids, digits) in rows {
         let made = key(alloc, 1, ids)?;
         let bytes = key_value(alloc, fields.as_slice(), &made, &entry)?;

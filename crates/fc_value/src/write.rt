@@ -135,11 +135,7 @@ fn write_table(entry: &Ty, value: &Value, into: &mut Vec<u8>) -> Result<(), Memo
 }
 
 #[cycle(write)]
-fn write_entries(
-    entry: &Ty,
-    entries: &[(u32, Value)],
-    into: &mut Vec<u8>,
-) -> Result<(), Memory>
+fn write_entries(entry: &Ty, entries: &[(u32, Value)], into: &mut Vec<u8>) -> Result<(), Memory>
     ensures { OnOk result (into.new.items ≡ into.old.items ++ flat_map (entry_bytes (inside_bytes entry.now)) entries.now) }
 {
     for (subscript, value) in entries {
