@@ -1,6 +1,9 @@
+pub mod Complete
 pub mod Conditions
 pub mod Digits
+pub mod Entries
 pub mod Distinct
 pub mod Layers
 pub mod Shrinking
+pub mod Sound
 pub mod Rising

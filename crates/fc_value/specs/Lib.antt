@@ -1,3 +1,4 @@
+pub mod FullForm
 pub mod Keys
 pub mod Nodes
 pub mod Numbers

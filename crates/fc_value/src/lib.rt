@@ -3,6 +3,7 @@
 #![tactic(auto)]
 
 mod key;
+mod laws;
 mod live;
 mod nodes;
 mod number;
@@ -16,6 +17,7 @@ mod value;
 mod write;
 
 pub use key::key_value;
+pub use laws::reading_is_the_form;
 pub use live::Live;
 pub use nodes::{node, node_mut};
 pub use opening::first;

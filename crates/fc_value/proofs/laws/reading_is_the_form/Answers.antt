@@ -1,0 +1,12 @@
+use Rattle.fc_value.proofs.Complete.{full_read, one_value}
+use Rattle.fc_value.proofs.Sound.{full_took}
+use Rattle.fc_value.proofs.laws.reading_is_the_form.Goals as goal
+
+pub returns-clause-found : goal.returns-clause-found
+returns-clause-found c = λ ty v bytes s fine e. full_took ty v bytes s fine e
+
+pub returns-clause-only : goal.returns-clause-only
+returns-clause-only c = λ ty v bytes h. full_read ty v bytes h
+
+pub returns-clause-one : goal.returns-clause-one
+returns-clause-one c = λ ty v w bytes h k. one_value ty v w bytes h k

@@ -1,0 +1,16 @@
+// Laws of the full form of values.
+ghost use Rattle.std.specs.Prelude.{◌≡◌, List, ℕ, Ok};
+ghost use Rattle.fc_types.specs.Sound.{IsSound};
+ghost use Rattle.fc_types.specs.declared.ty.Ty.{Ty};
+ghost use Rattle.fc_wire.specs.Bytes.{AreBytes};
+ghost use Rattle.fc_value.specs.FullForm.{IsFull};
+ghost use Rattle.fc_value.specs.Reading.{full_in};
+ghost use Rattle.fc_value.specs.declared.value.Value.{Value};
+
+/// Reading gives a value exactly where the bytes are a full form of it, and so bytes are the full form of one value at
+/// most.
+pub fn reading_is_the_form()
+    ensures found { (ty : Ty) (v : Value) (bytes : List ℕ) → IsSound ty → AreBytes bytes → full_in ty bytes ≡ Ok v → IsFull ty v bytes }
+    ensures only { (ty : Ty) (v : Value) (bytes : List ℕ) → IsFull ty v bytes → full_in ty bytes ≡ Ok v }
+    ensures one { (ty : Ty) (v w : Value) (bytes : List ℕ) → IsFull ty v bytes → IsFull ty w bytes → v ≡ w }
+{}
