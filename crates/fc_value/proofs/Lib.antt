@@ -6,4 +6,5 @@ pub mod Distinct
 pub mod Layers
 pub mod Shrinking
 pub mod Sound
+pub mod Opens
 pub mod Rising

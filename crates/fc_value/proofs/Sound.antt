@@ -1,5 +1,5 @@
 -- What is read is a full form of its value.
-use Rattle.std.proofs.Common.{◌≡◌, ℕ, ℤ, zero, suc, ◌+◌, ◌-◌, ◌*◌, ◌/◌, ◌%◌, ◌^◌, ◌==◌, ◌<◌, ◌≤◌, nat_lt, nat_le, int_lt, Bool, true, false, not, ◌&&◌, ◌||◌, cond, List, [], ◌∷◌, ◌++◌, append_assoc, append-nil, length, take, drop, map, Result, Ok, Err, refl, sym, ap, ap₂, ◌∙◌, subst, arith, length-append}
+use Rattle.std.proofs.Common.{◌≡◌, ℕ, ℤ, zero, suc, ◌+◌, ◌-◌, ◌*◌, ◌/◌, ◌%◌, ◌^◌, ◌==◌, ◌<◌, ◌≤◌, nat_lt, nat_le, int_lt, Bool, true, false, not, ◌&&◌, ◌||◌, cond, List, [], ◌∷◌, ◌++◌, append_assoc, append-nil, length, take, drop, map, Result, Ok, Err, IfOk, refl, sym, ap, ap₂, ◌∙◌, subst, arith, length-append}
 use Rattle.std.proofs.lemmas.Str.{IsUtf8-from_is_utf8}
 use Rattle.std.proofs.lemmas.List.{take-append-drop, length-drop}
 use Rattle.std.specs.Str.{is_utf8}
@@ -15,7 +15,8 @@ use Rattle.fc_types.specs.declared.ty.Ty.TheOpen.{Ty-F}
 use Rattle.fc_types.specs.declared.ty.Ty.TheViews.{out-Ty}
 use Rattle.fc_wire.specs.Bytes.{u16_at, u16_bytes, u32_at, u32_bytes, AreBytes}
 use Rattle.fc_wire.specs.Tlvs.{IsTlv}
-use Rattle.fc_value.specs.Outcomes.{◌>>=◌}
+use Rattle.fc_base.specs.declared.faults.OpFault.{OpFault}
+use Rattle.fc_value.specs.Outcomes.{◌>>=◌, Gives}
 use Rattle.fc_value.specs.Numbers.{is_width, number_of}
 use Rattle.fc_value.specs.Keys.{keys_differ}
 use Rattle.fc_value.specs.Reading.{Reader, taken, truth_in, ranged, number_in, fixed_in, text_of, octets_of, cut, unpadded, closed, held, each_in, group_in, has_subscript, entry_in, entries_by, entries_in, table_of, inside, alone, full_layer, full_in}
@@ -338,3 +339,8 @@ full_layer_took ty (Ty-F.Struct fields) v bytes is deep fine e = subst (λ l. In
 pub full_took : (ty : Ty) (v : Value) (bytes : List ℕ) → IsSound ty → AreBytes bytes → full_in ty bytes ≡ Ok v → IsFull ty v bytes
 unfolding full_in
 full_took ty v bytes s fine e = full_layer_took ty (out-Ty ty) v bytes refl s.shallow fine e
+
+-- what a call that gives what reading gives says of the bytes
+pub found_of : (result : Result Value OpFault) (ty : Ty) (bytes : List ℕ) → IsSound ty → AreBytes bytes → Gives (λ v. v) result (full_in ty bytes) → IfOk result (λ v. IsFull ty v bytes)
+found_of (Ok v) ty bytes s fine h = full_took ty v bytes s fine h
+found_of (Err fault) ty bytes s fine h = tt

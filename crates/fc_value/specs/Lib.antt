@@ -1,3 +1,4 @@
+pub mod Fits
 pub mod FullForm
 pub mod Keys
 pub mod Nodes

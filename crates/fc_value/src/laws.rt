@@ -1,9 +1,11 @@
 // Laws of the full form of values.
-ghost use Rattle.std.specs.Prelude.{◌≡◌, List, ℕ, Ok};
+ghost use Rattle.std.specs.Prelude.{◌≡◌, ◌≤◌, List, ℕ, ℤ, Ok, unsigned_abs};
 ghost use Rattle.fc_types.specs.Sound.{IsSound};
 ghost use Rattle.fc_types.specs.declared.ty.Ty.{Ty};
 ghost use Rattle.fc_wire.specs.Bytes.{AreBytes};
-ghost use Rattle.fc_value.specs.FullForm.{IsFull};
+ghost use Rattle.fc_value.specs.Fits.{Fits};
+ghost use Rattle.fc_value.specs.FullForm.{InRange, IsFull};
+ghost use Rattle.fc_value.specs.Opening.{nearest, opening};
 ghost use Rattle.fc_value.specs.Reading.{full_in};
 ghost use Rattle.fc_value.specs.declared.value.Value.{Value};
 
@@ -13,4 +15,10 @@ pub fn reading_is_the_form()
     ensures found { (ty : Ty) (v : Value) (bytes : List ℕ) → IsSound ty → AreBytes bytes → full_in ty bytes ≡ Ok v → IsFull ty v bytes }
     ensures only { (ty : Ty) (v : Value) (bytes : List ℕ) → IsFull ty v bytes → full_in ty bytes ≡ Ok v }
     ensures one { (ty : Ty) (v w : Value) (bytes : List ℕ) → IsFull ty v bytes → IsFull ty w bytes → v ≡ w }
+{}
+
+/// An opening value fits its type, and no number of a range is nearer to 0 than the one that it begins with.
+pub fn opening_values()
+    ensures fits { (ty : Ty) → IsSound ty → Fits ty (opening ty) }
+    ensures nearest { (min max z : ℤ) → InRange min max z → unsigned_abs (nearest min max) ≤ unsigned_abs z }
 {}

@@ -53,7 +53,7 @@ pub fn read_text(alloc: Global, bytes: &[u8], limit: u32) -> Result<Value, OpFau
 {
     match str::from_utf8(bytes) {
         Ok(text) => {
-            if bytes.len() > limit as usize {
+            if text.len() > limit as usize {
                 return Err(OpFault::Refused(Code::VALUE_OUT_OF_RANGE));
             }
             Ok(Value::Text(Text::from_str(alloc, text)?))

@@ -1,7 +1,11 @@
 // Values with their bytes and codes with their causes, which stand in the specification of the format.
+ghost use Rattle.std.specs.Prelude.{◌==◌, ◌&&◌, pos, Some, None, if◌then◌else◌};
+ghost use Rattle.fc_types.specs.BuiltIn.{is_live};
+ghost use Rattle.fc_value.specs.declared.value.Value.TheVariants.{Number};
+
 use crate::{Live, Value, first, key_value, node, node_mut, read_full, read_sparse, write_full};
 use fc_base::{Boxed, Code, Duplicate, List, Memory, Octets, OpFault, Text};
-use fc_types::{Field, KeyDecl, Ty};
+use fc_types::{Field, KeyDecl, Ty, is_live};
 use fc_wire::Ilv;
 use std::alloc::Global;
 use std::test::Fail;
@@ -233,9 +237,9 @@ fn values_and_their_bytes(rt: HostRuntime) -> Result<(), Fail> {
             read_full(alloc, &ty, &bytes) == Ok(value.copy()?),
             "{digits}"
         );
-        let mut written = bytes_of(alloc, "AA")?;
+        let mut written = Vec::new(alloc);
         write_full(&ty, &value, &mut written)?;
-        assert_eq!(rt; &written[1..], bytes.as_slice(), "{digits}");
+        assert_eq!(rt; written, bytes, "{digits}");
     }
     Ok(())
 }
@@ -573,16 +577,16 @@ fn keys_of_entries(rt: HostRuntime) -> Result<(), Fail> {
     Ok(())
 }
 
-// Tells the name of component 5 of class 1.
+// Tells zero of each live component.
 #[derive(Drop)]
-struct Vendor {
-    alloc: Global,
-}
+struct Zeros;
 
-impl Live for Vendor {
+impl Live for Zeros {
+    ghost told = { λ zeros class instance ident. if is_live class ident && (instance == 1) then Some (Number (pos 0)) else None };
+
     fn component(&self, class: u32, instance: u32, ident: u32) -> Result<Option<Value>, Memory> {
-        if (class, instance, ident) == (1, 1, 5) {
-            return Ok(Some(text(self.alloc, "fc")?));
+        if is_live(class, ident) && instance == 1 {
+            return Ok(Some(Value::Number(0)));
         }
         Ok(None)
     }
@@ -590,8 +594,9 @@ impl Live for Vendor {
 
 #[test]
 fn live_values(rt: HostRuntime) -> Result<(), Fail> {
-    let vendor = Vendor { alloc: rt.alloc() };
-    assert_eq!(rt; vendor.component(1, 1, 5)?, Some(text(rt.alloc(), "fc")?));
-    assert_eq!(rt; vendor.component(1, 1, 3)?, None);
+    assert!(rt; Zeros.component(1, 1, 5)? == Some(Value::Number(0)));
+    for (class, instance, ident) in [(1, 1, 3), (1, 2, 5), (3, 1, 5)] {
+        assert!(rt; Zeros.component(class, instance, ident)?.is_none());
+    }
     Ok(())
 }
