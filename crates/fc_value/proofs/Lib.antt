@@ -6,5 +6,6 @@ pub mod Distinct
 pub mod Layers
 pub mod Shrinking
 pub mod Sound
+pub mod SparseForms
 pub mod Opens
 pub mod Rising

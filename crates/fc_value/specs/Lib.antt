@@ -7,4 +7,5 @@ pub mod Opening
 pub mod Outcomes
 pub mod Reading
 pub mod Sparse
+pub mod SparseForm
 pub mod Writing

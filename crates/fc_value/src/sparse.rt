@@ -1,5 +1,8 @@
 // Reading values in the sparse form.
-ghost use Rattle.std.specs.Prelude.{◌≡◌, ◌==◌, option_map, find};
+ghost use Rattle.std.specs.Prelude.{◌≡◌, ◌==◌, ℕ, List as Items, option_map, find, IfOk, Ok};
+ghost use Rattle.fc_types.specs.Sound.{IsSound};
+ghost use Rattle.fc_value.specs.SparseForm.{HoldBytes, IsSparse};
+ghost use Rattle.fc_value.specs.declared.value.Value.{Value as Any};
 ghost use Rattle.fc_types.specs.Types.{field_id, field_ty};
 ghost use Rattle.fc_value.specs.Outcomes.{Gives};
 ghost use Rattle.fc_value.specs.Sparse as spec;
@@ -37,9 +40,18 @@ fn part_of(ty: &Ty, ident: u32) -> Option<&Ty>
 /// The new values of the fields of a struct, or of the entries of an array, that ILVs name, in their order. In the order
 /// of the ILVs, `INVALID_TLV` where an identifier is repeated or is no field, and then the code of the value;
 /// `INVALID_TLV` where the type is neither a struct nor an array.
-#[tactic(auto, unfolding(crate::specs::Sparse::sparse_in))]
 pub fn read_sparse(alloc: Global, ty: &Ty, ilvs: &[Ilv]) -> Result<List<(u32, Value)>, OpFault>
     ensures exact { Gives (λ changes. changes) result (sparse_in ty.now ilvs.now) }
+    ensures found { IsSound ty.now → HoldBytes ilvs.now → IfOk result (λ changes. IsSparse ty.now ilvs.now changes) }
+    ensures only { (changes : Items (ℕ × Any)) → IsSparse ty.now ilvs.now changes → Gives (λ cs. cs) result (Ok changes) }
+{
+    read_changes(alloc, ty, ilvs)
+}
+
+// The changes that the ILVs tell.
+#[tactic(auto, unfolding(crate::specs::Sparse::sparse_in))]
+fn read_changes(alloc: Global, ty: &Ty, ilvs: &[Ilv]) -> Result<List<(u32, Value)>, OpFault>
+    ensures { Gives (λ changes. changes) result (sparse_in ty.now ilvs.now) }
 {
     if is_atom(ty) {
         return Err(OpFault::Refused(Code::INVALID_TLV));

@@ -1,7 +1,7 @@
 use Rattle.std.proofs.Common.{◌≡◌, ℕ, [], drop, nat_cmp}
 use Rattle.std.specs.BTreeSet.{contains}
 use Rattle.fc_value.specs.Sparse.{changes_in, is_named}
-use Rattle.fc_value.proofs.sparse.read_sparse.Given as goal
+use Rattle.fc_value.proofs.sparse.read_changes.Given as goal
 
 abbrev pub invariant-loop-ilv : goal.invariant-loop-ilv
 invariant-loop-ilv l = record {
