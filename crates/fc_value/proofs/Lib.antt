@@ -7,5 +7,7 @@ pub mod Layers
 pub mod Shrinking
 pub mod Sound
 pub mod SparseForms
+pub mod Written
+pub mod Numbers
 pub mod Opens
 pub mod Rising

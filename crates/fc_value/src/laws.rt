@@ -7,6 +7,7 @@ ghost use Rattle.fc_value.specs.Fits.{Fits};
 ghost use Rattle.fc_value.specs.FullForm.{InRange, IsFull};
 ghost use Rattle.fc_value.specs.Opening.{nearest, opening};
 ghost use Rattle.fc_value.specs.Reading.{full_in};
+ghost use Rattle.fc_value.specs.Writing.{full_bytes};
 ghost use Rattle.fc_value.specs.declared.value.Value.{Value};
 
 /// Reading gives a value exactly where the bytes are a full form of it, and so bytes are the full form of one value at
@@ -21,4 +22,10 @@ pub fn reading_is_the_form()
 pub fn opening_values()
     ensures fits { (ty : Ty) → IsSound ty → Fits ty (opening ty) }
     ensures nearest { (min max z : ℤ) → InRange min max z → unsigned_abs (nearest min max) ≤ unsigned_abs z }
+{}
+
+/// What is written of a value that fits is one of its full forms, and is read again as it.
+pub fn written_values_are_read()
+    ensures form { (ty : Ty) (v : Value) → IsSound ty → Fits ty v → IsFull ty v (full_bytes ty v) }
+    ensures again { (ty : Ty) (v : Value) → IsSound ty → Fits ty v → full_in ty (full_bytes ty v) ≡ Ok v }
 {}

@@ -17,7 +17,7 @@ mod value;
 mod write;
 
 pub use key::key_value;
-pub use laws::{opening_values, reading_is_the_form};
+pub use laws::{opening_values, reading_is_the_form, written_values_are_read};
 pub use live::Live;
 pub use nodes::{node, node_mut};
 pub use opening::first;
