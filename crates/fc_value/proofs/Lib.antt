@@ -3,6 +3,7 @@ pub mod Conditions
 pub mod Digits
 pub mod Entries
 pub mod Distinct
+pub mod Fitting
 pub mod Layers
 pub mod Shrinking
 pub mod Sound

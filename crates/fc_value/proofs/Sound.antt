@@ -29,18 +29,18 @@ use Rattle.fc_value.proofs.Layers.{in_layer, inside_law}
 use Rattle.fc_value.proofs.Shrinking.{never, ok_same, bind_ok, else_ok, then_ok, cut_ok}
 
 -- bytes in bytes
-front_bytes : (xs ys : List ℕ) → AreBytes (xs ++ ys) → AreBytes xs
+pub front_bytes : (xs ys : List ℕ) → AreBytes (xs ++ ys) → AreBytes xs
 front_bytes [] ys h = tt
 front_bytes (x ∷ xs) ys h = (h.0, front_bytes xs ys h.1)
 
-back_bytes : (xs ys : List ℕ) → AreBytes (xs ++ ys) → AreBytes ys
+pub back_bytes : (xs ys : List ℕ) → AreBytes (xs ++ ys) → AreBytes ys
 back_bytes [] ys h = h
 back_bytes (x ∷ xs) ys h = back_bytes xs ys h.1
 
-split_back : (bytes xs ys : List ℕ) → bytes ≡ xs ++ ys → AreBytes bytes → AreBytes ys
+pub split_back : (bytes xs ys : List ℕ) → bytes ≡ xs ++ ys → AreBytes bytes → AreBytes ys
 split_back bytes xs ys e h = back_bytes xs ys (subst AreBytes e h)
 
-split_front : (bytes xs ys : List ℕ) → bytes ≡ xs ++ ys → AreBytes bytes → AreBytes xs
+pub split_front : (bytes xs ys : List ℕ) → bytes ≡ xs ++ ys → AreBytes bytes → AreBytes xs
 split_front bytes xs ys e h = front_bytes xs ys (subst AreBytes e h)
 
 -- what a reader took is of this kind, and the rest stands behind it

@@ -11,10 +11,11 @@ ghost use Rattle.fc_value.specs.Writing.{full_bytes};
 ghost use Rattle.fc_value.specs.declared.value.Value.{Value};
 
 /// Reading gives a value exactly where the bytes are a full form of it, and so bytes are the full form of one value at
-/// most.
+/// most. A value that bytes are a full form of fits its type.
 pub fn reading_is_the_form()
     ensures found { (ty : Ty) (v : Value) (bytes : List ℕ) → IsSound ty → AreBytes bytes → full_in ty bytes ≡ Ok v → IsFull ty v bytes }
     ensures only { (ty : Ty) (v : Value) (bytes : List ℕ) → IsFull ty v bytes → full_in ty bytes ≡ Ok v }
+    ensures fits { (ty : Ty) (v : Value) (bytes : List ℕ) → AreBytes bytes → IsFull ty v bytes → Fits ty v }
     ensures one { (ty : Ty) (v w : Value) (bytes : List ℕ) → IsFull ty v bytes → IsFull ty w bytes → v ≡ w }
 {}
 
