@@ -16,7 +16,7 @@ use fc_wire::Ilv;
 /// may stand there.
 #[tactic(auto, unfolding(crate::specs::Text::message_text))]
 pub fn show(message: &Message, into: &mut Vec<u8>) -> Result<(), Memory>
-    ensures { OnOk result (into.new.items ≡ into.old.items ++ message_text message.now) }
+    ensures ok { OnOk result (into.new.items ≡ into.old.items ++ message_text message.now) }
 {
     push_head(into, message)?;
     push_content(into, &message.body)

@@ -45,7 +45,7 @@ usage_none known = (Err NoMemory, refl, none_written known _)
 
 pub show_none : (limit : ℕ) (left known : Option (List ℕ)) → (how : Result Shown Stop) × (9 ≡ status_of how) × ShowEnds limit how left left known known
 show_none limit left known =
-    (Err NoMemory, refl, ([], consumes_none left, stops_here _ _ (take limit []) [] (take limit []) known known (record { frames = []; whole = refl; each = tt }) (Appends-nil known)))
+    (Err NoMemory, refl, ([], consumes_none left, (omega arith, stops_here _ _ (take limit []) [] (take limit []) known known (record { frames = []; whole = refl; each = tt }) (Appends-nil known))))
 
 pub element_none : (limit id ce turns : ℕ) (left : Option (List ℕ)) (held : Option Held) (known : Option (List ℕ))
     → (how : Result ElementEnd Stop) × (9 ≡ element_status how) × ElementEnds limit id ce turns how left left held held known known

@@ -71,7 +71,7 @@ pub memory_ends : (stop : Stop) (limit : ℕ) (bytes : List ℕ) (hs : List Mess
     → Consumes before mid bytes → Keeps mid left → length bytes ≤ limit → Reaches bytes hs rest → Appends old new (text_of hs)
     → ShowEnds limit (Err stop) before left old new
 memory_ends stop limit bytes hs rest before mid left old new consumed kept le there lines =
-    (bytes, Consumes-kept before mid left bytes consumed kept, stops_here _ _ (take limit bytes) hs rest old new (rw (take_all limit bytes le) there) lines)
+    (bytes, Consumes-kept before mid left bytes consumed kept, (omega arith, stops_here _ _ (take limit bytes) hs rest old new (rw (take_all limit bytes le) there) lines))
 
 -- a read failed
 pub read_fault_ends : (limit : ℕ) (bytes : List ℕ) (hs : List Message) (rest : List ℕ) (before mid left old new : Option (List ℕ))
@@ -91,14 +91,14 @@ rest_ends (Ok Refused) limit bytes hs rest fed before mid left old now new consu
     let place : length (take limit bytes) - length rest ≡ fed - length rest = ap (λ l. length l - length rest) whole ∙ ap (λ n. n - length rest) is in (
       bytes,
       rw append-nil at (Consumes-trans before mid left bytes [] consumed none),
-      (hs, rest, rest, fault, rw whole there, inr ((end, le), partial, some, refl), refused, rw place (Appends-trans old now new _ _ lines ends)),
+      (le, hs, rest, rest, fault, rw whole there, inr ((end, le), partial, some, refl), refused, rw place (Appends-trans old now new _ _ lines ends)),
     )
 rest_ends (Ok ReadFault) limit bytes hs rest fed before mid left old now new consumed none end le is there partial lines ends = absurd ends
 rest_ends (Ok TooLong) limit bytes hs rest fed before mid left old now new consumed none end le is there partial lines ends = absurd ends
 rest_ends (Err stop) limit bytes hs rest fed before mid left old now new consumed none end le is there partial lines (some, inl nothing) = (
   bytes,
   rw append-nil at (Consumes-trans before mid left bytes [] consumed none),
-  stops_here _ _ (take limit bytes) hs rest old new (rw (take_all limit bytes le) there) (rw append-nil at (Appends-trans old now new _ _ lines nothing)),
+  (omega arith, stops_here _ _ (take limit bytes) hs rest old new (rw (take_all limit bytes le) there) (rw append-nil at (Appends-trans old now new _ _ lines nothing))),
 )
 rest_ends (Err stop) limit bytes hs rest fed before mid left old now new consumed none end le is there partial lines (some, inr (fault, refused, front)) =
     let whole = take_all limit bytes le in
@@ -106,12 +106,15 @@ rest_ends (Err stop) limit bytes hs rest fed before mid left old now new consume
       bytes,
       rw append-nil at (Consumes-trans before mid left bytes [] consumed none),
       (
-        hs,
-        rest,
-        refusal_text (fed - length rest) fault,
-        rw whole there,
-        rw place (inr (rest, inr ((end, le), partial, some, refl), inr (fault, refused, refl))),
-        front_after old now new _ _ lines front,
+        omega arith,
+        (
+          hs,
+          rest,
+          refusal_text (fed - length rest) fault,
+          rw whole there,
+          rw place (inr (rest, inr ((end, le), partial, some, refl), inr (fault, refused, refl))),
+          front_after old now new _ _ lines front,
+        ),
       ),
     )
 
@@ -131,6 +134,7 @@ refused_ends limit bytes hs rest piece fed before mid left old now new last faul
       bytes ++ piece,
       Consumes-trans before mid left bytes piece consumed more,
       (
+        omega (arith, length-append bytes piece),
         hs ++ ks,
         after,
         take (frame_len after) after,
@@ -153,12 +157,15 @@ stopped_ends stop limit bytes hs rest piece fed before mid left old now new last
       bytes ++ piece,
       Consumes-trans before mid left bytes piece consumed more,
       (
-        hs ++ ks,
-        after,
-        text,
-        rw looked (reaches_on (bytes ++ piece) hs (rest ++ piece) ks after (reaches_fed bytes hs rest piece there) there_too),
-        rw place (next_there _ _ after text next),
-        rw (text_then hs ks _) (front_after old now new _ _ lines lines_too),
+        omega (arith, length-append bytes piece),
+        (
+          hs ++ ks,
+          after,
+          text,
+          rw looked (reaches_on (bytes ++ piece) hs (rest ++ piece) ks after (reaches_fed bytes hs rest piece there) there_too),
+          rw place (next_there _ _ after text next),
+          rw (text_then hs ks _) (front_after old now new _ _ lines lines_too),
+        ),
       ),
     )
 
@@ -184,8 +191,8 @@ flush_ends Done limit before left old mid new (bytes, consumed, (end, le, hs, th
     (bytes, consumed, (end, le, hs, there, Appends-kept old mid new _ lines kept))
 flush_ends ReadFault limit before left old mid new (bytes, consumed, (le, hs, rest, there, partial, lines)) kept =
     (bytes, consumed, (le, hs, rest, there, partial, Appends-kept old mid new _ lines kept))
-flush_ends Refused limit before left old mid new (bytes, consumed, (hs, rest, frame, fault, there, next, is, lines)) kept =
-    (bytes, consumed, (hs, rest, frame, fault, there, next, is, Appends-kept old mid new _ lines kept))
+flush_ends Refused limit before left old mid new (bytes, consumed, (le, hs, rest, frame, fault, there, next, is, lines)) kept =
+    (bytes, consumed, (le, hs, rest, frame, fault, there, next, is, Appends-kept old mid new _ lines kept))
 flush_ends TooLong limit before left old mid new (bytes, consumed, (lt, hs, rest, there, partial, lines)) kept =
     (bytes, consumed, (lt, hs, rest, there, partial, Appends-kept old mid new _ lines kept))
 
@@ -195,27 +202,30 @@ pub flush_stops : (shown : Shown) (stop : Stop) (limit : ℕ) (before left old m
 flush_stops Done stop limit before left old mid new (bytes, consumed, (end, le, hs, there, lines)) kept = (
   bytes,
   consumed,
-  (hs, [], [], rw (take_all limit bytes le) there, inl refl, rw append-nil (whole_front old new _ (Appends-kept old mid new _ lines kept))),
+  (omega arith, (hs, [], [], rw (take_all limit bytes le) there, inl refl, rw append-nil (whole_front old new _ (Appends-kept old mid new _ lines kept)))),
 )
 flush_stops ReadFault stop limit before left old mid new (bytes, consumed, (le, hs, rest, there, partial, lines)) kept = (
   bytes,
   consumed,
-  (hs, rest, [], rw (take_all limit bytes le) there, inl refl, rw append-nil (whole_front old new _ (Appends-kept old mid new _ lines kept))),
+  (omega arith, (hs, rest, [], rw (take_all limit bytes le) there, inl refl, rw append-nil (whole_front old new _ (Appends-kept old mid new _ lines kept)))),
 )
-flush_stops Refused stop limit before left old mid new (bytes, consumed, (hs, rest, frame, fault, there, next, is, lines)) kept = (
+flush_stops Refused stop limit before left old mid new (bytes, consumed, (le, hs, rest, frame, fault, there, next, is, lines)) kept = (
   bytes,
   consumed,
   (
-    hs,
-    rest,
-    refusal_text (length (take limit bytes) - length rest) fault,
-    there,
-    inr (frame, next, inr (fault, is, refl)),
-    whole_front old new _ (Appends-kept old mid new _ lines kept),
+    omega arith,
+    (
+      hs,
+      rest,
+      refusal_text (length (take limit bytes) - length rest) fault,
+      there,
+      inr (frame, next, inr (fault, is, refl)),
+      whole_front old new _ (Appends-kept old mid new _ lines kept),
+    ),
   ),
 )
 flush_stops TooLong stop limit before left old mid new (bytes, consumed, (lt, hs, rest, there, partial, lines)) kept =
-    (bytes, consumed, (hs, rest, [], there, inl refl, rw append-nil (whole_front old new _ (Appends-kept old mid new _ lines kept))))
+    (bytes, consumed, (omega arith, (hs, rest, [], there, inl refl, rw append-nil (whole_front old new _ (Appends-kept old mid new _ lines kept)))))
 
 -- the count of the source where the flush stopped
 pub stop_source : (shown : Shown) (stop : Stop) (before now : ℕ) → SourceCount (Ok shown) before now → SourceCount (Err stop) before now

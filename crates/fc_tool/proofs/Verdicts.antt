@@ -90,27 +90,27 @@ done_long limit bytes l k o p n m (read, consumed, (end, le, hs, there, lines)) 
     absurd (omega (arith, ap length same, ap length split, length-append reads more))
 
 refused_long : (limit : ℕ) (bytes : List ℕ) (l k o p n m : Option (List ℕ)) → ShowEnds limit (Ok Refused) (Some bytes) l o n → ShowEnds limit (Ok TooLong) (Some bytes) k p m → ⊥
-refused_long limit bytes l k o p n m (read, consumed, (hs, rest, frame, fault, there, inl (le, cut), is, lines)) (reads, consumes, (lt, ks, last, whole, partial, writes)) =
+refused_long limit bytes l k o p n m (read, consumed, (within, hs, rest, frame, fault, there, inl (le, cut), is, lines)) (reads, consumes, (lt, ks, last, whole, partial, writes)) =
     let (more, split) = front_read bytes read l consumed in
     let (beyond, parts) = front_read bytes reads k consumes in
     let (after, looked) = looked_front limit bytes read more split in
     let long : limit ≤ length reads = omega arith in
     let all : take limit bytes ≡ take limit reads = ap (take limit) parts ∙ take-append-le limit reads beyond long in
     no_refusal (take limit read) after hs ks rest last fault there le (rw cut at is) (rw (← looked, all) whole) partial
-refused_long limit bytes l k o p n m (read, consumed, (hs, rest, frame, fault, there, inr (end, little, some, cut), is, lines)) (reads, consumes, (lt, ks, last, whole, partial, writes)) =
+refused_long limit bytes l k o p n m (read, consumed, (within, hs, rest, frame, fault, there, inr (end, little, some, cut), is, lines)) (reads, consumes, (lt, ks, last, whole, partial, writes)) =
     let same = all_read bytes read l consumed end.0 in
     let (more, split) = front_read bytes reads k consumes in
     absurd (omega (arith, end.1, ap length same, ap length split, length-append reads more))
 
 refused_done : (limit : ℕ) (bytes : List ℕ) (l k o p n m : Option (List ℕ)) → ShowEnds limit (Ok Refused) (Some bytes) l o n → ShowEnds limit (Ok Done) (Some bytes) k p m → ⊥
-refused_done limit bytes l k o p n m (read, consumed, (hs, rest, frame, fault, there, inl (le, cut), is, lines)) (reads, consumes, (finish, small, ks, whole, writes)) =
+refused_done limit bytes l k o p n m (read, consumed, (within, hs, rest, frame, fault, there, inl (le, cut), is, lines)) (reads, consumes, (finish, small, ks, whole, writes)) =
     let (more, split) = front_read bytes read l consumed in
     let same = all_read bytes reads k consumes finish in
     let (after, looked) = looked_front limit bytes read more split in
     let fits : length bytes ≤ limit = omega (arith, ap length same) in
     let all : take limit read ++ after ≡ reads = sym looked ∙ take_all limit bytes fits ∙ same in
     no_refusal (take limit read) after hs ks rest [] fault there le (rw cut at is) (rw all whole) (lit< tt)
-refused_done limit bytes l k o p n m (read, consumed, (hs, rest, frame, fault, there, inr (end, little, some, cut), is, lines)) (reads, consumes, (finish, small, ks, whole, writes)) =
+refused_done limit bytes l k o p n m (read, consumed, (within, hs, rest, frame, fault, there, inr (end, little, some, cut), is, lines)) (reads, consumes, (finish, small, ks, whole, writes)) =
     let same : read ≡ reads = sym (all_read bytes read l consumed end.0) ∙ all_read bytes reads k consumes finish in
     let one : Frames reads there.frames rest = record {
       whole = sym same ∙ sym (take_all limit read end.1) ∙ there.whole;

@@ -88,7 +88,7 @@ Ends limit ReadFault bytes left old new =
     (length bytes ≤ limit) × (ms : List Message) × (rest : List ℕ) × Reaches bytes ms rest × IsPartial rest × Appends old new (text_of ms)
 -- the first bytes that spell no message
 Ends limit Refused bytes left old new =
-    (ms : List Message) × (rest : List ℕ) × (frame : List ℕ) × (fault : Refusal) × Reaches (take limit bytes) ms rest
+    (length bytes ≤ limit) × (ms : List Message) × (rest : List ℕ) × (frame : List ℕ) × (fault : Refusal) × Reaches (take limit bytes) ms rest
     × IsNext (IsAtEnd left × (length bytes ≤ limit)) rest frame × (fault_of frame ≡ Some fault)
     × Appends old new (text_of ms ++ refusal_text (length (take limit bytes) - length rest) fault)
 -- one byte more came than is looked at, and what is looked at is messages and less than a frame
@@ -99,7 +99,7 @@ Ends limit TooLong bytes left old new =
 abbrev pub EndsSo : ℕ → Result Shown Stop → List ℕ → Option (List ℕ) → Option (List ℕ) → Option (List ℕ) → Type 0
 EndsSo limit (Ok shown) bytes left old new = Ends limit shown bytes left old new
 EndsSo limit (Err stop) bytes left old new =
-    StoppedAt (IsAtEnd left × (length bytes ≤ limit)) (length (take limit bytes)) (take limit bytes) old new
+    (length bytes ≤ limit + 1) × StoppedAt (IsAtEnd left × (length bytes ≤ limit)) (length (take limit bytes)) (take limit bytes) old new
 
 -- the same with the bytes that the source lost
 abbrev pub ShowEnds : ℕ → Result Shown Stop → Option (List ℕ) → Option (List ℕ) → Option (List ℕ) → Option (List ℕ) → Type 0

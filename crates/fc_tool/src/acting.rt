@@ -50,6 +50,7 @@ fn send<H: Hub>(alloc: Global, hub: &mut H, out: &Out) -> Result<(), NodeStop>
     ensures count { HubCount result (H.faults hub.old) (H.faults hub.new) }
 {
     let mut bytes = Vec::new(alloc);
+    // What an element sends holds no LFBselect and so is never too long: an error here is want of memory.
     if encode(&out.message, &mut bytes).is_err() {
         return Err(NodeStop::NoMemory);
     }
