@@ -15,8 +15,8 @@ use Rattle.fc_wire.specs.Tlvs.{IsTlv}
 use Rattle.fc_value.specs.Outcomes.{◌>>=◌}
 use Rattle.fc_value.specs.Numbers.{is_width, number_of}
 use Rattle.fc_value.specs.Keys.{keys_differ}
-use Rattle.fc_value.specs.Reading.{Reader, taken, truth_in, ranged, number_in, fixed_in, text_of, octets_of, cut, unpadded, closed, held, each_in, group_in, has_subscript, entry_in, entries_in, table_of, inside, alone, full_layer, full_in}
-use Rattle.fc_value.specs.FullForm.{Forms, IsTruth, IsBit, IsNumber, IsText, IsOctets, IsFixed, EachField, IsGroup, IsEntry, EachEntry, AreRising, AreJoined, AreEntries, IsTable, InFullData, InsideLayer, IsInside, FullLayer, IsFull}
+use Rattle.fc_value.specs.Reading.{Reader, taken, truth_in, ranged, number_in, fixed_in, text_of, octets_of, cut, closed, held, each_in, has_subscript, entry_in, entries_in, table_of, inside, alone, full_layer, full_in}
+use Rattle.fc_value.specs.FullForm.{Forms, IsTruth, IsBit, IsNumber, IsText, IsOctets, IsFixed, EachField, EachEntry, AreRising, AreJoined, IsTable, InsideLayer, IsInside, FullLayer, IsFull}
 use Rattle.fc_value.specs.declared.value.Value.{Value}
 use Rattle.fc_value.specs.declared.value.Value.TheVariants as value
 use Rattle.fc_value.proofs.Conditions.{then_is, else_is, not_below}

@@ -1,5 +1,5 @@
 -- The test for distinct members, and what it says.
-use Rattle.std.proofs.Common.{◌≡◌, refl, Bool, true, false, not, ◌&&◌, ◌||◌, List, [], ◌∷◌}
+use Rattle.std.proofs.Common.{◌≡◌, refl, Bool, true, false, not, List, [], ◌∷◌}
 use Rattle.std.specs.List.{AllByRecursion, IsDistinct, list_any}
 use Rattle.fc_types.specs.Ids.{is_distinct}
 use Rattle.fc_value.proofs.Conditions.{both, neither}

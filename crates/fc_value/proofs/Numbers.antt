@@ -1,10 +1,8 @@
 -- Numbers that are written are read again.
-use Rattle.std.proofs.Common.{◌≡◌, ℕ, ℤ, pos, negsuc, zero, suc, ◌+◌, ◌-◌, ◌*◌, ◌/◌, ◌%◌, ◌^◌, ◌==◌, ◌<◌, ◌≤◌, nat_lt, nat_le, int_le, int_lt, Bool, true, false, not, ◌&&◌, ◌||◌, cond, List, [], ◌∷◌, ◌++◌, length, Option, Some, None, refl, sym, ap, ◌∙◌, subst, arith, length-append}
+use Rattle.std.proofs.Common.{◌≡◌, ℕ, ℤ, pos, negsuc, zero, suc, ◌+◌, ◌-◌, ◌*◌, ◌/◌, ◌%◌, ◌^◌, ◌<◌, ◌≤◌, nat_lt, int_le, Bool, true, false, not, ◌&&◌, cond, List, [], ◌∷◌, length, refl, ap, ◌∙◌, arith, length-append}
 use Rattle.std.proofs.lemmas.Int.{ints}
-use Rattle.fc_types.specs.Types.{span, is_range}
-use Rattle.fc_value.specs.Numbers.{digits_from, unsigned, digits, number_of, bits_of, number_bytes, is_width}
-use Rattle.fc_value.specs.FullForm.{InRange}
-use Rattle.fc_value.proofs.Conditions.{both, then_is, else_is, below, not_below}
+use Rattle.fc_value.specs.Numbers.{unsigned, digits, number_of, bits_of}
+use Rattle.fc_value.proofs.Conditions.{then_is, else_is, below, not_below}
 use Rattle.fc_value.proofs.Digits.{digits_push}
 
 pub digits_long : (w n : ℕ) → length (digits w n) ≡ w

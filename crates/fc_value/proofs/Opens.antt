@@ -1,5 +1,5 @@
 -- Opening values fit, and numbers among them are nearest to 0.
-use Rattle.std.proofs.Common.{◌≡◌, ℕ, ℤ, pos, negsuc, zero, suc, ◌+◌, ◌<◌, ◌≤◌, nat_le, int_le, int_lt, Bool, true, false, ◌&&◌, ◌||◌, cond, List, [], ◌∷◌, length, map, replicate, Option, Some, None, refl, sym, ap, ap₂, ◌∙◌, subst, arith}
+use Rattle.std.proofs.Common.{◌≡◌, ℕ, ℤ, zero, suc, ◌<◌, ◌≤◌, int_le, true, false, ◌&&◌, List, [], ◌∷◌, length, map, replicate, Option, Some, None, refl, sym, ap, ap₂, ◌∙◌, subst, arith}
 use Rattle.std.specs.Prelude.{unsigned_abs}
 use Rattle.std.specs.List.{AllByRecursion, list_all}
 use Rattle.fc_types.specs.Sound.{IsSound}
@@ -12,7 +12,7 @@ use Rattle.fc_types.specs.declared.ty.Ty.TheViews.{out-Ty, roll-Ty, roll-out-Ty,
 use Rattle.fc_types.specs.declared.ty.Ty.TheFolds.{fold-roll-Ty, fold-roll-Field}
 use Rattle.fc_value.specs.Keys.{keys_differ}
 use Rattle.fc_value.specs.Fits.{FitsLayer, FitsIn, Fits, EachFits}
-use Rattle.fc_value.specs.FullForm.{InRange, AreEntries}
+use Rattle.fc_value.specs.FullForm.{InRange}
 use Rattle.fc_value.specs.Opening.{nearest, opening, opening_at, opening_step, opening_field}
 use Rattle.fc_value.specs.declared.value.Value.{Value}
 use Rattle.fc_value.specs.declared.value.Value.TheVariants as value

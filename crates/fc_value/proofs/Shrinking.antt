@@ -1,21 +1,19 @@
 -- What stands behind a value is no longer than the bytes in which it was read, and entries are read one after the other.
-use Rattle.std.proofs.Common.{◌≡◌, ◌≢◌, ℕ, ℤ, zero, suc, ◌+◌, ◌-◌, ◌%◌, ◌==◌, ◌<◌, ◌≤◌, nat_lt, nat_le, int_lt, Bool, true, false, not, ◌&&◌, ◌||◌, cond, List, [], ◌∷◌, ◌++◌, append_assoc, get_or, length, take, drop, map, is_some, Result, Ok, Err, refl, sym, ap, ◌∙◌, subst, arith}
+use Rattle.std.proofs.Common.{◌≡◌, ℕ, ℤ, zero, suc, ◌+◌, ◌-◌, ◌%◌, ◌==◌, ◌<◌, ◌≤◌, nat_lt, nat_le, int_lt, Bool, true, false, not, ◌||◌, cond, List, [], ◌∷◌, ◌++◌, append_assoc, get_or, length, take, drop, map, Result, Ok, Err, refl, sym, ap, ◌∙◌, subst, arith}
 use Rattle.std.proofs.lemmas.List.{length-drop, drop_more}
-use Rattle.std.specs.Str.{is_utf8}
 use Rattle.std.specs.List.{AllByRecursion}
 use Rattle.fc_types.specs.Types.{field_ty, fields_of}
-use Rattle.fc_types.specs.declared.ty.KeyDecl.{KeyDecl}
 use Rattle.fc_types.specs.declared.ty.Field.{Field}
 use Rattle.fc_types.specs.declared.ty.Ty.{Ty, map-Ty}
 use Rattle.fc_types.specs.declared.ty.Ty.TheOpen.{Ty-F, Field-F}
-use Rattle.fc_types.specs.declared.ty.Ty.TheViews.{out-Ty, roll-Ty, roll-out-Ty, out-Field, roll-Field, roll-out-Field, out-roll-Field}
+use Rattle.fc_types.specs.declared.ty.Ty.TheViews.{out-roll-Field}
 use Rattle.fc_types.specs.declared.ty.Ty.TheFolds.{ind-Ty}
 use Rattle.fc_wire.specs.Bytes.{u16_at, u32_at}
 use Rattle.std.specs.Ordering.{nat_cmp}
 use Rattle.std.specs.BTreeMap.{insert_entry}
 use Rattle.fc_base.specs.declared.faults.OpFault.{OpFault}
 use Rattle.fc_base.specs.declared.faults.OpFault.TheVariants as faults
-use Rattle.fc_value.specs.Outcomes.{◌>>=◌, Fails, invalid_tlv, out_of_range}
+use Rattle.fc_value.specs.Outcomes.{◌>>=◌, Fails, out_of_range}
 use Rattle.fc_value.proofs.Conditions.{not_below_is}
 use Rattle.fc_value.specs.Numbers.{is_width, number_of}
 use Rattle.fc_value.specs.Reading.{Reader, taken, truth_in, ranged, number_in, fixed_in, text_of, octets_of, cut, unpadded, closed, held, each_in, group_in, has_subscript, entry_in, entries_by, entries_in, table_of, inside, inside_at}

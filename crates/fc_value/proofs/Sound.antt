@@ -1,9 +1,9 @@
 -- What is read is a full form of its value.
-use Rattle.std.proofs.Common.{◌≡◌, ℕ, ℤ, zero, suc, ◌+◌, ◌-◌, ◌*◌, ◌/◌, ◌%◌, ◌^◌, ◌==◌, ◌<◌, ◌≤◌, nat_lt, nat_le, int_lt, Bool, true, false, not, ◌&&◌, ◌||◌, cond, List, [], ◌∷◌, ◌++◌, append_assoc, append-nil, length, take, drop, map, Result, Ok, Err, IfOk, refl, sym, ap, ap₂, ◌∙◌, subst, arith, length-append}
+use Rattle.std.proofs.Common.{◌≡◌, ℕ, ℤ, zero, suc, ◌+◌, ◌-◌, ◌*◌, ◌/◌, ◌%◌, ◌^◌, ◌==◌, ◌<◌, ◌≤◌, nat_lt, nat_le, int_lt, Bool, true, false, not, ◌||◌, cond, List, [], ◌∷◌, ◌++◌, append_assoc, append-nil, length, take, drop, map, Result, Ok, Err, IfOk, refl, sym, ap, ap₂, ◌∙◌, subst, arith, length-append}
 use Rattle.std.proofs.lemmas.Str.{IsUtf8-from_is_utf8}
 use Rattle.std.proofs.lemmas.List.{take-append-drop, length-drop}
 use Rattle.std.specs.Str.{is_utf8}
-use Rattle.std.specs.List.{AllByRecursion, list_all}
+use Rattle.std.specs.List.{list_all}
 use Rattle.std.specs.Ordering.{nat_cmp}
 use Rattle.std.specs.BTreeMap.{insert_entry}
 use Rattle.fc_types.specs.Sound.{IsSound}
@@ -14,17 +14,16 @@ use Rattle.fc_types.specs.declared.ty.Ty.{Ty}
 use Rattle.fc_types.specs.declared.ty.Ty.TheOpen.{Ty-F}
 use Rattle.fc_types.specs.declared.ty.Ty.TheViews.{out-Ty}
 use Rattle.fc_wire.specs.Bytes.{u16_at, u16_bytes, u32_at, u32_bytes, AreBytes}
-use Rattle.fc_wire.specs.Tlvs.{IsTlv}
 use Rattle.fc_base.specs.declared.faults.OpFault.{OpFault}
 use Rattle.fc_value.specs.Outcomes.{◌>>=◌, Gives}
 use Rattle.fc_value.specs.Numbers.{is_width, number_of}
 use Rattle.fc_value.specs.Keys.{keys_differ}
-use Rattle.fc_value.specs.Reading.{Reader, taken, truth_in, ranged, number_in, fixed_in, text_of, octets_of, cut, unpadded, closed, held, each_in, group_in, has_subscript, entry_in, entries_by, entries_in, table_of, inside, alone, full_layer, full_in}
-use Rattle.fc_value.specs.FullForm.{Forms, IsTruth, IsBit, IsNumber, IsText, IsOctets, IsFixed, EachField, IsGroup, IsEntry, EachEntry, AreRising, AreJoined, AreEntries, IsTable, InFullData, InsideLayer, IsInside, FullLayer, IsFull}
+use Rattle.fc_value.specs.Reading.{Reader, taken, truth_in, ranged, number_in, fixed_in, text_of, octets_of, cut, unpadded, closed, held, each_in, has_subscript, entry_in, entries_by, entries_in, table_of, inside, alone, full_layer, full_in}
+use Rattle.fc_value.specs.FullForm.{IsTruth, IsBit, IsNumber, IsText, IsOctets, IsFixed, EachField, EachEntry, AreRising, AreJoined, IsTable, InFullData, InsideLayer, IsInside, FullLayer, IsFull}
 use Rattle.fc_value.specs.declared.value.Value.{Value}
 use Rattle.fc_value.specs.declared.value.Value.TheVariants as value
 use Rattle.fc_value.proofs.Conditions.{both, neither, not_below_is}
-use Rattle.fc_value.proofs.Entries.{Place, place}
+use Rattle.fc_value.proofs.Entries.{place}
 use Rattle.fc_value.proofs.Layers.{in_layer, inside_law}
 use Rattle.fc_value.proofs.Shrinking.{never, ok_same, bind_ok, else_ok, then_ok, cut_ok}
 

@@ -1,5 +1,5 @@
 -- The sparse form is read as its changes, and what is read is spelled so.
-use Rattle.std.proofs.Common.{◌≡◌, ℕ, ◌==◌, Bool, true, false, cond, List, [], ◌∷◌, ◌++◌, append_assoc, append-nil, map, option_map, find, Option, Some, None, Result, Ok, Err, IfOk, refl, sym, ap, ap₂, ◌∙◌, subst}
+use Rattle.std.proofs.Common.{◌≡◌, ℕ, ◌==◌, Bool, true, false, cond, List, [], ◌∷◌, ◌++◌, append_assoc, append-nil, option_map, find, Option, Some, None, Result, Ok, Err, IfOk, refl, sym, ap, ◌∙◌, subst}
 use Rattle.std.specs.List.{AllByRecursion}
 use Rattle.fc_base.specs.declared.faults.OpFault.{OpFault}
 use Rattle.fc_types.specs.Sound.{IsSound, IsSoundInside, SoundLayer}
@@ -9,13 +9,11 @@ use Rattle.fc_types.specs.declared.ty.Ty.{Ty}
 use Rattle.fc_types.specs.declared.ty.Ty.TheOpen.{Ty-F}
 use Rattle.fc_types.specs.declared.ty.Ty.TheViews.{out-Ty}
 use Rattle.fc_types.proofs.Sounds.{level_is_sound}
-use Rattle.fc_wire.specs.Bytes.{AreBytes}
 use Rattle.fc_wire.specs.declared.ilvs.Ilv.{Ilv}
 use Rattle.fc_value.specs.Outcomes.{◌>>=◌, Gives}
-use Rattle.fc_value.specs.FullForm.{IsFull}
 use Rattle.fc_value.specs.Reading.{full_in}
 use Rattle.fc_value.specs.Sparse.{part_layer, part_of, value_of, is_named, change_in, changes_in, sparse_in}
-use Rattle.fc_value.specs.SparseForm.{HoldBytes, IsChange, AreChanges, IsSparse}
+use Rattle.fc_value.specs.SparseForm.{HoldBytes, AreChanges, IsSparse}
 use Rattle.fc_value.specs.declared.value.Value.{Value}
 use Rattle.fc_value.proofs.Complete.{full_read}
 use Rattle.fc_value.proofs.Conditions.{else_is}

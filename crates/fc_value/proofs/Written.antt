@@ -1,12 +1,12 @@
 -- What is written of a value that fits is one of its full forms.
-use Rattle.std.proofs.Common.{◌≡◌, ℕ, ℤ, pos, negsuc, zero, suc, ◌+◌, ◌-◌, ◌*◌, ◌/◌, ◌%◌, ◌^◌, ◌==◌, ◌<◌, ◌≤◌, nat_le, int_le, int_lt, Bool, true, false, not, ◌&&◌, ◌||◌, cond, List, [], ◌∷◌, ◌++◌, append_assoc, append-nil, ◌⊎◌, inl, inr, length, map, sum, Option, Some, None, Result, Ok, refl, sym, ap, ap₂, ◌∙◌, subst, arith, length-append}
+use Rattle.std.proofs.Common.{◌≡◌, ℕ, ℤ, pos, negsuc, zero, suc, ◌+◌, ◌-◌, ◌*◌, ◌/◌, ◌%◌, ◌^◌, ◌<◌, ◌≤◌, nat_le, int_le, Bool, true, false, ◌&&◌, cond, List, [], ◌∷◌, ◌++◌, append_assoc, append-nil, ◌⊎◌, inl, inr, length, map, sum, Option, Some, None, refl, sym, ap, ap₂, ◌∙◌, subst, arith, length-append}
 use Rattle.std.proofs.lemmas.List.{length-replicate}
 use Rattle.std.proofs.Math.Nat.{mul-le-mul_right}
 use Rattle.std.proofs.lemmas.Grind.{common_steps}
 use Rattle.std.proofs.lemmas.Int.{ints}
 use Rattle.std.specs.List.{AllByRecursion, flat_map}
-use Rattle.fc_types.specs.Sound.{IsSound, IsSoundInside, IsSoundStruct, IsSoundArray, SoundLayer}
-use Rattle.fc_types.specs.Types.{field_ty, fields_of, span, is_range, is_upto, padded, full_size, full_size_at, size_step, size_field, fits_inside, fits_layer}
+use Rattle.fc_types.specs.Sound.{IsSound, IsSoundInside, SoundLayer}
+use Rattle.fc_types.specs.Types.{field_ty, span, is_range, is_upto, padded, full_size, full_size_at, size_step, size_field, fits_layer}
 use Rattle.fc_types.specs.declared.ty.KeyDecl.{KeyDecl}
 use Rattle.fc_types.specs.declared.ty.Field.{Field}
 use Rattle.fc_types.specs.declared.ty.Ty.{Ty}
@@ -14,13 +14,13 @@ use Rattle.fc_types.specs.declared.ty.Ty.TheOpen.{Ty-F, Field-F}
 use Rattle.fc_types.specs.declared.ty.Ty.TheViews.{out-Ty, roll-Ty, roll-out-Ty, out-Field, roll-Field, roll-out-Field}
 use Rattle.fc_types.specs.declared.ty.Ty.TheFolds.{fold-roll-Ty, fold-roll-Field}
 use Rattle.fc_types.proofs.Sounds.{level_is_sound}
-use Rattle.fc_wire.specs.Bytes.{u16_bytes, u32_bytes}
+use Rattle.fc_wire.specs.Bytes.{u32_bytes}
 use Rattle.fc_wire.specs.Tlvs.{IsTlv}
 use Rattle.fc_wire.specs.Writing.{padding}
 use Rattle.fc_value.specs.Numbers.{is_width, number_of, number_bytes, digits, bits_of}
 use Rattle.fc_value.specs.Writing.{Writer, truth_layer, number_layer, bare_layer, bare_bytes, each_bytes, group_layer, entry_bytes, table_layer, full_data, inside_step, field_step, inside_bytes, inside_bytes_at, full_layer, full_bytes}
 use Rattle.fc_value.specs.Fits.{EachFits, EntryFits, FitsLayer, FitsIn, Fits}
-use Rattle.fc_value.specs.FullForm.{IsTruth, IsBit, IsNumber, IsText, IsOctets, IsFixed, InRange, EachField, IsGroup, IsEntry, EachEntry, AreRising, AreJoined, AreEntries, IsTable, InFullData, InsideLayer, IsInside, FullLayer, IsFull}
+use Rattle.fc_value.specs.FullForm.{IsTruth, IsNumber, IsText, IsOctets, IsFixed, InRange, EachField, IsGroup, EachEntry, AreJoined, IsTable, InFullData, InsideLayer, IsInside, FullLayer, IsFull}
 use Rattle.fc_value.specs.declared.value.Value.{Value, out-Value, roll-Value}
 use Rattle.fc_value.specs.declared.value.Value.TheOpen.{Value-F}
 use Rattle.fc_value.specs.declared.value.Value.TheVariants as value

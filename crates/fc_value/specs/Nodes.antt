@@ -1,7 +1,7 @@
 -- Places within a value: each step is a place, counted from 0, within the fields of a struct or the entries of an array. This
 -- profile's own.
-use Rattle.std.specs.Prelude.{ℕ, List, [], ◌∷◌, slice_get, slice_set, Option, Some, None, option_map, option_and_then}
-use Rattle.fc_value.specs.declared.value.Value.{Value, out-Value, roll-Value}
+use Rattle.std.specs.Prelude.{ℕ, List, [], ◌∷◌, slice_get, Option, Some, None, option_map, option_and_then}
+use Rattle.fc_value.specs.declared.value.Value.{Value, out-Value}
 use Rattle.fc_value.specs.declared.value.Value.TheOpen.{Value-F}
 
 abbrev pub child_layer : ℕ → Value-F Value → Option Value

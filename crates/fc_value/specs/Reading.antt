@@ -1,6 +1,6 @@
 -- What the full form of a value is read as: the value, or the code of the first failure from left to right (RFC 5810, section
 -- 7.1, on FULLDATA; the codes and their order are this profile's own).
-use Rattle.std.specs.Prelude.{ℕ, ℤ, zero, suc, ◌+◌, ◌-◌, ◌%◌, ◌==◌, nat_lt, nat_le, int_lt, Bool, true, false, not, ◌&&◌, ◌||◌, List, [], ◌∷◌, length, take, drop, map, is_some, Result, Ok, Err, if◌then◌else◌}
+use Rattle.std.specs.Prelude.{ℕ, ℤ, zero, suc, ◌-◌, ◌%◌, ◌==◌, nat_lt, nat_le, int_lt, Bool, true, false, not, ◌||◌, List, [], ◌∷◌, length, take, drop, map, is_some, Result, Ok, Err, if◌then◌else◌}
 use Rattle.std.specs.Str.{is_utf8}
 use Rattle.std.specs.Ordering.{nat_cmp}
 use Rattle.std.specs.BTreeMap.{insert_entry, is_at}

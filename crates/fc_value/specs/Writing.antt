@@ -1,6 +1,6 @@
 -- The full form that is written: entries by rising subscript, and zeros as padding (RFC 5810, section 7.1; RFC 5812, section 4.5;
 -- what stands in a TLV of its own is this profile's own).
-use Rattle.std.specs.Prelude.{ℕ, ◌+◌, ◌/◌, ◌%◌, Bool, true, false, List, [], ◌∷◌, ◌++◌, length}
+use Rattle.std.specs.Prelude.{ℕ, ◌+◌, ◌/◌, ◌%◌, true, false, List, [], ◌∷◌, ◌++◌, length}
 use Rattle.std.specs.List.{flat_map}
 use Rattle.fc_types.specs.declared.ty.Field.{Field}
 use Rattle.fc_types.specs.declared.ty.Ty.{Ty}

@@ -1,4 +1,4 @@
-use Rattle.std.proofs.Common.{◌≡◌, ◌<◌, ◌*◌, ◌^◌, length, take}
+use Rattle.std.proofs.Common.{◌≡◌, ◌<◌, ◌*◌, ◌^◌, take}
 use Rattle.fc_value.specs.Numbers.{unsigned}
 use Rattle.fc_value.proofs.number.unsigned.Given as goal
 

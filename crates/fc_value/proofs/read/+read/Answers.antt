@@ -1,10 +1,10 @@
 use mir.Val.{SFits}
 use mir.Syntax.{w128}
 use Rattle.std.proofs.lemmas.Int.{to_z-of_z}
-use Rattle.std.proofs.Common.{rules, ◌≡◌, ap, sym, ◌∙◌, subst, arith, length, map}
+use Rattle.std.proofs.Common.{rules, sym, ◌∙◌, subst, arith, map}
 use Rattle.std.proofs.lemmas.Result.{err_from_is_err_and}
 use Rattle.fc_value.specs.Outcomes.{Fails}
-use Rattle.fc_value.specs.Reading.{each_in, entries_in, inside, inside_at}
+use Rattle.fc_value.specs.Reading.{each_in, inside, inside_at}
 use Rattle.fc_types.specs.declared.ty.Ty.TheOpen.{Ty-F}
 use Rattle.fc_types.specs.declared.ty.Ty.TheVariants as v
 use Rattle.fc_value.proofs.Layers.{given, given_group, given_number, given_table}
