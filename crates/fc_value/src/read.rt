@@ -2,7 +2,7 @@
 ghost use Rattle.std.specs.Prelude.{◌≡◌, ◌≤◌, ◌<◌, [], map, length, IfOk, Ok};
 ghost use Rattle.fc_types.specs.Sound.{IsSound};
 ghost use Rattle.fc_value.specs.FullForm.{IsFull};
-ghost use Rattle.fc_value.specs.declared.value.Value.{Value as Any};
+ghost use Rattle.fc_value.specs.declared.value.Value.{Value as Valued};
 ghost use Rattle.fc_types.specs.Types.{fields_of as fields_in};
 ghost use Rattle.fc_value.specs.Outcomes.{Gives};
 ghost use Rattle.fc_value.specs.Reading.{full_in, inside, inside_at, each_in, group_in, held, table_of, entries_in, entry_in};
@@ -28,7 +28,7 @@ use std::collections::BTreeMap;
 pub fn read_full(alloc: Global, ty: &Ty, bytes: &[u8]) -> Result<Value, OpFault>
     ensures exact { Gives (λ v. v) result (full_in ty.now bytes.now) }
     ensures found { IsSound ty.now → IfOk result (λ v. IsFull ty.now v bytes.now) }
-    ensures only { (v : Any) → IsFull ty.now v bytes.now → Gives (λ w. w) result (Ok v) }
+    ensures only { (v : Valued) → IsFull ty.now v bytes.now → Gives (λ w. w) result (Ok v) }
 {
     read_whole(alloc, ty, bytes)
 }

@@ -2,7 +2,7 @@
 ghost use Rattle.std.specs.Prelude.{◌≡◌, ◌==◌, ℕ, List as Items, option_map, find, IfOk, Ok};
 ghost use Rattle.fc_types.specs.Sound.{IsSound};
 ghost use Rattle.fc_value.specs.SparseForm.{HoldBytes, IsSparse};
-ghost use Rattle.fc_value.specs.declared.value.Value.{Value as Any};
+ghost use Rattle.fc_value.specs.declared.value.Value.{Value as Valued};
 ghost use Rattle.fc_types.specs.Types.{field_id, field_ty};
 ghost use Rattle.fc_value.specs.Outcomes.{Gives};
 ghost use Rattle.fc_value.specs.Sparse as spec;
@@ -43,7 +43,7 @@ fn part_of(ty: &Ty, ident: u32) -> Option<&Ty>
 pub fn read_sparse(alloc: Global, ty: &Ty, ilvs: &[Ilv]) -> Result<List<(u32, Value)>, OpFault>
     ensures exact { Gives (λ changes. changes) result (sparse_in ty.now ilvs.now) }
     ensures found { IsSound ty.now → HoldBytes ilvs.now → IfOk result (λ changes. IsSparse ty.now ilvs.now changes) }
-    ensures only { (changes : Items (ℕ × Any)) → IsSparse ty.now ilvs.now changes → Gives (λ cs. cs) result (Ok changes) }
+    ensures only { (changes : Items (ℕ × Valued)) → IsSparse ty.now ilvs.now changes → Gives (λ cs. cs) result (Ok changes) }
 {
     read_changes(alloc, ty, ilvs)
 }
