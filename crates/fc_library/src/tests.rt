@@ -766,7 +766,88 @@ keys = [{ x = 1 }]
 
 KEY
 x = 1
-=> unknown x"#;
+=> unknown x
+
+DOCUMENT
+class = 1
+instance = 1
+=> wrongkind class
+
+CLASS
+id = 5
+name = 5
+component = 1
+=> wrongkind name
+
+CLASS
+id = 5
+name = 'c'
+component = 1
+event_base = -1
+=> wrongkind component
+
+CLASS
+id = 5
+name = 'c'
+event_base = -1
+event = 1
+=> wrongkind event_base
+
+TYPE
+type = 'u8'
+optional = 1
+min = '1'
+=> wrongkind optional
+
+TYPE
+type = 'u8'
+min = '1'
+max = '2'
+=> wrongkind min
+
+TYPE
+type = 'array'
+entry = { type = 'u8' }
+entries = '4'
+keys = 1
+=> wrongkind entries
+
+FIELD
+id = -1
+=> wrongkind id
+
+FIELD
+id = 1
+type = 8
+=> missing name
+
+FIELD
+id = 1
+name = 5
+=> wrongkind name
+
+FIELD
+id = 1
+name = 'a'
+type = 'none'
+=> wrongkind type
+
+ENTRY
+type = 8
+=> wrongkind type
+
+KEY
+id = -1
+=> wrongkind id
+
+EVENT
+id = -1
+=> wrongkind id
+
+EVENT
+id = 1
+name = 5
+=> wrongkind name"#;
 
 // Documents whose declaration is refused by the check.
 const CHECKS: &str = r#"CLASS
@@ -902,7 +983,15 @@ target = [1]
 [[instance]]
 class = 6
 id = 1
-=> check badtarget"#;
+=> check badtarget
+
+INSTANCE
+class = 5
+id = 1
+[[instance]]
+class = 5
+id = 1
+=> check unknownclass"#;
 
 #[test]
 fn documents_of_other_spellings_are_read(rt: HostRuntime) -> Result<(), Fail> {
@@ -914,6 +1003,7 @@ fn documents_of_other_spellings_are_read(rt: HostRuntime) -> Result<(), Fail> {
         "class = [{ id = 5, name = '' }]",
         "[[class]]\nid = 4_294_967_295\nname = \"\"\"c\"\"\"\nevent_base = 0b1",
         "[[class]]\nid = 5\nname = 'c'\ncomponent = [{ id = 1, name = 'a', type = 'array', entries = 1, entry.type = 'u8' }]",
+        "[[class]]\nid = 5\nname = 'c'\ncomponent = [{ id = 1, name = 'a', type = 'array', entries = 1, entry = { type = 'array', entries = 1, entry = { type = 'array', entries = 1, entry = { type = 'array', entries = 1, entry = { type = 'array', entries = 1, entry = { type = 'array', entries = 1, entry = { type = 'array', entries = 1, entry = { type = 'bool' } } } } } } } }]",
         "[[class]]\nid = 0\nname = 'c'\ncomponent = [{ id = 1, name = 'a', type = 'struct', fields = [] }]\n[[instance]]\nclass = 0\nid = 0",
     ] {
         let told = line(alloc, document.as_bytes())?;
