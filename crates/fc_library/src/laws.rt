@@ -35,9 +35,9 @@ pub fn numbers_span_their_type()
     ensures { (name : NumberName) → span (width name) (is_signed name) ≡ Some (least name, greatest name) }
 {}
 
-/// Each cause of a refusal stands alone: a document is not TOML exactly where its bytes are none; the check refuses it exactly
-/// where its tables declare classes and instances of which that is the first fault; and it means a library exactly where
-/// its tables declare classes and instances that have none. Want of memory is no meaning.
+/// The causes that are not of keys stand alone: a document is not TOML exactly where its bytes are none; the check refuses it
+/// exactly where its tables declare classes and instances of which that is the first fault; and it means a library exactly
+/// where its tables declare classes and instances that have none. Want of memory is no meaning.
 pub fn documents_are_judged_once()
     ensures not_toml { (bytes : List ℕ) → library_of bytes ≡ Err NotToml ↔ document bytes ≡ None }
     ensures refused { (bytes : List ℕ) (fault : CheckFault) → (library_of bytes ≡ Err (Check fault)) ↔ ((ms : Members) × (given : List Class × List (ℕ × ℕ)) × (document bytes ≡ Some ms) × (declaration ms ≡ Ok given) × (first_fault given.0 given.1 ≡ Some fault)) }

@@ -47,7 +47,7 @@ pub fn input_ends_once()
 {}
 
 /// A known input and a known hub have one ending of `element` of those in which nothing failed: the hub has no more
-/// events, so many were taken as are to be taken, or the input is not empty or too long.
+/// events, so many were taken as are to be taken, or the input means no library or is too long.
 pub fn element_ends_once()
     ensures { (e f : ElementEnd) (limit id ce turns : ℕ) (bytes : List ℕ) (held : Held) (l k : Option (List ℕ)) (new other : Option Held) (o p n m : Option (List ℕ))
         → IsOutcome e → IsOutcome f → ElementEnds limit id ce turns (Ok e) (Some bytes) l (Some held) new o n

@@ -4,7 +4,7 @@ use Rattle.fc_tool.proofs.element.declared_element.Goals as goal
 
 pub returns : goal.returns
 returns g c = record {
-  ends = refused_stops c.in-Err-put_refusal.stop c.in-Err.fault _ _ _ _ _ _ _ (fault_meant c.in-Err.fault c.args.document.now (search rules) c.in-Err.ensures) c.in-Err-put_refusal.ensures.err;
+  ends = refused_stops c.in-Err-put_refusal.stop c.in-Err.fault _ _ _ _ _ _ _ (fault_meant c.in-Err.fault c.args.document.now (search rules) c.in-Err.ensures.exact) c.in-Err-put_refusal.ensures.err;
   unflushed = c.in-Err-put_refusal.ensures.unflushed;
   hub = inl refl;
   sink = c.in-Err-put_refusal.ensures.count;
