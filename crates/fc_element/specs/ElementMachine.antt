@@ -1,9 +1,10 @@
 -- What an element does with what comes: RFC 5810, sections 4.4 and 7.5 on associations and 7.10 on heartbeats.
-use Rattle.std.specs.Prelude.{ℕ, ◌-◌, ◌/◌, ◌%◌, ◌^◌, ◌==◌, ◌&&◌, not, nat_lt, max, Bool, false, if◌then◌else◌, List, [], ◌∷◌, ◌++◌, map, codes, decimal}
+use Rattle.std.specs.Prelude.{◌≡◌, ℕ, ◌-◌, ◌/◌, ◌%◌, ◌^◌, ◌==◌, ◌&&◌, not, nat_lt, max, Bool, true, false, if◌then◌else◌, List, [], ◌∷◌, ◌++◌, map, codes, decimal}
 use Rattle.std.specs.FinMap.{contains_key, entries, remove, len}
 use Rattle.fc_base.specs.Hex.{hex}
 use Rattle.fc_assoc.specs.Associations.{AssociationMap, entered, renewed, still_heard}
 use Rattle.fc_wire.specs.Flags.{FlagValues}
+use Rattle.fc_msg.specs.Messages.{message_fits}
 use Rattle.fc_msg.specs.declared.message.Message.{Message}
 use Rattle.fc_msg.specs.declared.message.MsgBody.{MsgBody}
 use Rattle.fc_msg.specs.declared.message.MsgBody.TheVariants.{Setup, SetupResponse, Teardown, Config, ConfigResponse, Query, QueryResponse, Event, Heartbeat}
@@ -116,6 +117,10 @@ step s (Opened peer) = turn s (out peer (setup_of s.id) ∷ [])
 step s (Arrived peer m) = on_message s peer m
 step s (Closed peer) = turn s []
 step s (Moment moment) = beating (watched (moved_on s moment))
+
+-- a message that has a spelling: no length in it is too long for its field
+abbrev pub CanBeSent : Out → Type 0
+CanBeSent o = message_fits o.message ≡ true
 
 -- the report on an element: its ID, the epoch, its master and the sequence
 abbrev pub report_text : ℕ → ℕ → List ℕ

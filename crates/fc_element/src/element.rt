@@ -1,7 +1,8 @@
 // The element.
 ghost use Rattle.std.specs.Prelude.{◌≡◌, ◌++◌, IfOk, OnOk, OnErr};
+ghost use Rattle.std.specs.List.{AllByRecursion};
 ghost use Rattle.fc_base.specs.Ids.{IsCe};
-ghost use Rattle.fc_element.specs.ElementMachine.{step, beating, is_due, moved_on, on_body, on_message, report_of, setup_of, turn, out, watched};
+ghost use Rattle.fc_element.specs.ElementMachine.{CanBeSent, step, beating, is_due, moved_on, on_body, on_message, report_of, setup_of, turn, out, watched};
 ghost use Rattle.fc_element.specs.ElementState.{opened};
 
 use crate::replies::{ALWAYS, answer, one, push_beats, setup};
@@ -51,10 +52,20 @@ impl Element {
         })
     }
 
-    /// Takes an input, and gives the messages that it sends, in their order. After an `Err` nothing has changed, as if
-    /// the input had been lost.
-    #[tactic(auto, unfolding(crate::specs::ElementMachine::step))]
+    /// Takes an input, and gives the messages that it sends, in their order, each of which can be encoded. After an `Err`
+    /// nothing has changed, as if the input had been lost.
     pub fn step(&mut self, input: ElIn) -> Result<List<Out>, Memory>
+        ensures outs { IfOk result (λ outs. outs ≡ (step self.old input).outs) }
+        ensures fit { IfOk result (λ outs. AllByRecursion CanBeSent outs) }
+        ensures ok { OnOk result (self.new ≡ (step self.old input).state) }
+        ensures err { OnErr result (self.new ≡ self.old) }
+    {
+        self.taken(input)
+    }
+
+    // The same, of which that all can be encoded is not said.
+    #[tactic(auto, unfolding(crate::specs::ElementMachine::step))]
+    fn taken(&mut self, input: ElIn) -> Result<List<Out>, Memory>
         ensures outs { IfOk result (λ outs. outs ≡ (step self.old input).outs) }
         ensures ok { OnOk result (self.new ≡ (step self.old input).state) }
         ensures err { OnErr result (self.new ≡ self.old) }
