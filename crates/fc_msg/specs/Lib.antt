@@ -1,4 +1,5 @@
 pub mod Bodies
+pub mod BodyVisits
 pub mod Decoding
 pub mod Faults
 pub mod Messages

@@ -14,6 +14,7 @@ pub use decoding::decode;
 pub use encoding::encode;
 pub use fault::{MsgFault, Reason, Refusal};
 pub use laws::{
-    canonical_is_spelled, judged_once, message_is_unique, no_spelling_is_a_front_of_another,
+    body_faults_are_in_reading_order, canonical_is_spelled, first_broken_rule_is_told, judged_once,
+    message_is_unique, no_spelling_is_a_front_of_another,
 };
 pub use message::{Message, MsgBody};
