@@ -3,8 +3,10 @@ pub mod BodyOrder
 pub mod BodyRising
 pub mod Canonical
 pub mod FaultPlaces
+pub mod Holding
 pub mod Numbers
 pub mod Reading
 pub mod Selects
+pub mod Splitting
 pub mod Told
 pub mod Writing

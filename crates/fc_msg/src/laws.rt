@@ -1,7 +1,8 @@
-// Laws of messages and their bytes.
+// Laws of messages and their bytes, and of the frames of a stream.
 ghost use Rattle.std.specs.Prelude.{◌≡◌, ◌<◌, ◌+◌, ◌%◌, ◌^◌, ◌++◌, ◌⊎◌, ◌↔◌, [], List, ℕ, length, Option, Some, None, Ok, Err, true};
 ghost use Rattle.std.specs.List.{AllByRecursion};
 ghost use Rattle.fc_wire.specs.Bytes.{AreBytes};
+ghost use Rattle.fc_wire.specs.Frames.{Frames, IsFrame, IsPartial, joined};
 ghost use Rattle.fc_wire.specs.Tlvs.{TlvItem, tlvs};
 ghost use Rattle.fc_wire.specs.declared.header.WireFault.{WireFault};
 ghost use Rattle.fc_path.specs.Visits.{AreRising, FirstBad, IsGood};
@@ -14,6 +15,7 @@ ghost use Rattle.fc_msg.specs.declared.fault.Refusal.{Refusal};
 ghost use Rattle.fc_msg.specs.Faults.{fault_of, head_fault};
 ghost use Rattle.fc_msg.specs.Messages.{Spells, IsProper, canonical, message_fits};
 ghost use Rattle.fc_msg.specs.Reading.{message_in};
+ghost use Rattle.fc_msg.specs.Splitting.{Call, after_calls, fed, unfed};
 
 /// Bytes spell at most one message, which is the one that is read from them, and is proper.
 pub fn message_is_unique()
@@ -57,4 +59,13 @@ pub fn first_broken_rule_is_told()
     ensures first { (bytes : List ℕ) (told : Refusal) → (fault_of bytes ≡ Some told) ↔ FirstTold told (tests_of bytes) }
     ensures rising { (bytes : List ℕ) → AreBytes bytes → head_fault bytes ≡ None → AreRising 24 (visits_in bytes) }
     ensures spelled { (bytes : List ℕ) → AreBytes bytes → ((m : Message) × Spells m bytes) ↔ AllByRecursion IsPassed (tests_of bytes) }
+{}
+
+/// Whatever pieces a stream is fed in, and whenever frames are asked for: what was taken are the first frames of the
+/// whole stream, the rest is what stands after them, and where no whole frame is left these are all its frames.
+pub fn any_pieces()
+    ensures taken { (calls : List Call) → (fed calls ≡ joined (after_calls unfed calls).taken ++ (after_calls unfed calls).rest)
+        × AllByRecursion IsFrame (after_calls unfed calls).taken }
+    ensures all { (calls : List Call) → IsPartial (after_calls unfed calls).rest →
+        Frames (fed calls) (after_calls unfed calls).taken (after_calls unfed calls).rest }
 {}
