@@ -1,6 +1,12 @@
 pub mod Bodies
+pub mod BodyOrder
+pub mod BodyRising
 pub mod Canonical
+pub mod FaultPlaces
+pub mod Holding
 pub mod Numbers
 pub mod Reading
 pub mod Selects
+pub mod Splitting
+pub mod Told
 pub mod Writing

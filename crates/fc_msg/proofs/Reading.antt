@@ -79,7 +79,7 @@ both_none : (a b : Option Refusal) → a ≡ None → b ≡ None → first_of a 
 both_none None b p q = q
 both_none (Some t) b p q = cc
 
-none_both : (a b : Option Refusal) → first_of a b ≡ None → (a ≡ None) × (b ≡ None)
+pub none_both : (a b : Option Refusal) → first_of a b ≡ None → (a ≡ None) × (b ≡ None)
 none_both None b is = (refl, is)
 none_both (Some told) b is = cc
 
@@ -121,7 +121,7 @@ pub record Headed (bytes : List ℕ) : Type 0 where
   pub some : 6 ≤ u16_at bytes 2
   pub size : length bytes ≡ 4 * u16_at bytes 2
 
-headed : (bytes : List ℕ) → first_broken (header_rules bytes) ≡ None → Headed bytes
+pub headed : (bytes : List ℕ) → first_broken (header_rules bytes) ≡ None → Headed bytes
 headed bytes rules = record {
   many = grind (arith, nat_tests);
   version = grind (arith, nat_tests);
@@ -228,7 +228,7 @@ body_gives bytes tail kind end t h body k d e i head size some is read =
 abbrev Judged : List ℕ → Type 0
 Judged bytes = ((m : Message) × Spells m bytes) ⊎ ((told : Refusal) × (fault_of bytes ≡ Some told))
 
-told_some : (f : PathFault) → HasPlace f → (told : Refusal) × (told_of f ≡ Some told)
+pub told_some : (f : PathFault) → HasPlace f → (told : Refusal) × (told_of f ≡ Some told)
 told_some (faults.Wire fault) h = (_, refl)
 told_some (faults.UnknownTlv place) h = (_, refl)
 told_some (faults.CountPast place) h = (_, refl)
@@ -254,7 +254,7 @@ pub never_both : (bytes : List ℕ) (m : Message) (told : Refusal) → Spells m 
 never_both bytes m told is e = let none = sym (refused bytes told e) ∙ read m bytes is in cc
 
 -- a message that is spelled is proper
-byte_small : (bytes : List ℕ) (i : ℕ) → AreBytes bytes → slice_index bytes i < 256
+pub byte_small : (bytes : List ℕ) (i : ℕ) → AreBytes bytes → slice_index bytes i < 256
 byte_small [] i fine = omega arith
 byte_small (b ∷ bytes) zero fine = fine.0
 byte_small (b ∷ bytes) (suc i) fine = byte_small bytes i fine.1

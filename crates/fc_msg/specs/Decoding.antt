@@ -1,5 +1,5 @@
 -- What an answer of decoding is to a message, and to a refusal. This profile's own.
-use Rattle.std.specs.Prelude.{◌≡◌, ⊤, Option, Some, None, Result, Ok, Err}
+use Rattle.std.specs.Prelude.{◌≡◌, ◌≤◌, ⊤, ℕ, Option, Some, None, Result, Ok, Err}
 use Rattle.fc_path.specs.declared.fault.PathFault.{PathFault}
 use Rattle.fc_msg.specs.Faults.{told_of}
 use Rattle.fc_msg.specs.declared.message.Message.{Message}
@@ -17,6 +17,11 @@ Gives m (Err Memory) = ⊤
 abbrev pub Refuses : Option Refusal → MsgFault → Type 0
 Refuses broken (At refusal) = broken ≡ Some refusal
 Refuses broken Memory = ⊤
+
+-- the place that is told is that of one of so many bytes, or their end
+abbrev pub IsWithin : ℕ → MsgFault → Type 0
+IsWithin count (At refusal) = refusal.place ≤ count
+IsWithin count Memory = ⊤
 
 -- the fault of a message by that of its body
 abbrev pub told_or_memory : Option Refusal → MsgFault

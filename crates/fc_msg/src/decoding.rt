@@ -4,7 +4,7 @@ ghost use Rattle.fc_wire.specs.Bytes.{u16_at};
 ghost use Rattle.fc_wire.specs.Header.{IsHeader};
 ghost use Rattle.fc_wire.specs.declared.header.Header.{Header};
 ghost use Rattle.fc_msg.specs.declared.message.Message.{Message};
-ghost use Rattle.fc_msg.specs.Decoding.{Gives, Refuses};
+ghost use Rattle.fc_msg.specs.Decoding.{Gives, IsWithin, Refuses};
 ghost use Rattle.fc_msg.specs.Faults.{first_broken, first_of, header_rules, type_rules, head_fault, fault_of};
 ghost use Rattle.fc_msg.specs.Messages.{IsProper, Spells};
 ghost use Rattle.fc_msg.specs.Reading.{Tells, message_in};
@@ -27,6 +27,7 @@ pub fn decode(alloc: Global, bytes: &[u8]) -> Result<Message, MsgFault>
     ensures exact { Tells (message_in bytes.now) result }
     ensures accepted { IfOk result (λ _. fault_of bytes.now ≡ None) }
     ensures refused { IfErr result (λ fault. Refuses (fault_of bytes.now) fault) }
+    ensures within { IfErr result (λ fault. IsWithin (length bytes.now) fault) }
 {
     are_bytes(bytes);
     message_of(alloc, bytes)

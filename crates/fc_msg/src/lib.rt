@@ -1,4 +1,4 @@
-//! Messages of the ForCES protocol (RFC 5810, section 7) and their bytes, both ways.
+//! Messages of the ForCES protocol (RFC 5810, section 7) and their bytes, both ways, and how a stream is cut into frames.
 #![tactic(auto)]
 
 mod body;
@@ -7,6 +7,7 @@ mod encoding;
 mod fault;
 mod laws;
 mod message;
+mod splitter;
 #[cfg(test)]
 mod tests;
 
@@ -14,6 +15,8 @@ pub use decoding::decode;
 pub use encoding::encode;
 pub use fault::{MsgFault, Reason, Refusal};
 pub use laws::{
-    canonical_is_spelled, judged_once, message_is_unique, no_spelling_is_a_front_of_another,
+    any_pieces, body_faults_are_in_reading_order, canonical_is_spelled, first_broken_rule_is_told,
+    judged_once, message_is_unique, no_spelling_is_a_front_of_another,
 };
 pub use message::{Message, MsgBody};
+pub use splitter::{Splitter, whole_frame};

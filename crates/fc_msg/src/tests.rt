@@ -1,6 +1,6 @@
 // Messages and faults whose bytes and places stand in the specification of the format.
-use crate::{Message, MsgBody, MsgFault, Reason, Refusal, decode, encode};
-use fc_base::{Duplicate, List, WriteFault};
+use crate::{Message, MsgBody, MsgFault, Reason, Refusal, Splitter, decode, encode};
+use fc_base::{Duplicate, List, SureSource, WriteFault};
 use fc_wire::Flags;
 use std::alloc::{AllocError, Global};
 use std::test::Fail;
@@ -254,5 +254,45 @@ fn the_longest_message_is_taken_and_a_longer_one_refused(rt: HostRuntime) -> Res
     }
     assert_eq!(rt; encode(&message, &mut out), Err(WriteFault::TooLong));
     assert_eq!(rt; out.len(), bytes.len());
+    Ok(())
+}
+
+// A heartbeat and a query, one after the other.
+fn stream(alloc: Global) -> Result<Vec<u8>, AllocError> {
+    let mut bytes = bytes_of(alloc, SAMPLES[0])?;
+    push_digits(&mut bytes, SAMPLES[4])?;
+    Ok(bytes)
+}
+
+#[test]
+fn a_splitter_lends_the_frames_of_the_stream(rt: HostRuntime) -> Result<(), Fail> {
+    let alloc = rt.alloc();
+    let mut splitter = Splitter::new(alloc);
+    assert!(rt; splitter.next().is_none());
+    let bytes = stream(alloc)?;
+    assert_eq!(rt; bytes.len(), 76);
+    splitter.feed(&bytes[..23])?;
+    assert!(rt; splitter.next().is_none());
+    assert_eq!(rt; splitter.rest().len(), 23);
+    splitter.feed(&bytes[23..75])?;
+    assert_eq!(rt; splitter.next().ok_or("a frame")?, &bytes[..24]);
+    assert!(rt; splitter.next().is_none());
+    splitter.feed(&bytes[75..])?;
+    assert_eq!(rt; splitter.next().ok_or("a frame")?, &bytes[24..]);
+    assert_eq!(rt; splitter.rest().len(), 0);
+    Ok(())
+}
+
+#[test]
+fn a_splitter_reads_no_more_than_it_is_to_read(rt: HostRuntime) -> Result<(), Fail> {
+    let alloc = rt.alloc();
+    let bytes = stream(alloc)?;
+    let mut input = SureSource::new(stream(alloc)?, 60);
+    let mut splitter = Splitter::new(alloc);
+    for (most, given, left) in [(50, 50, 50), (60, 26, 76), (60, 0, 76)] {
+        let count = splitter.feed_from(&mut input, most).ok().ok_or("bytes")?;
+        assert_eq!(rt; count, given);
+        assert_eq!(rt; splitter.rest(), &bytes[..left]);
+    }
     Ok(())
 }

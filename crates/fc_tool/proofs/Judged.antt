@@ -1,9 +1,8 @@
 -- What spells a message is a frame.
-use Rattle.std.proofs.Common.{◌≡◌, ◌≤◌, ◌*◌, ℕ, List, length, arith, refl, sym, ap, ◌∙◌}
+use Rattle.std.proofs.Common.{◌≡◌, ◌≤◌, ℕ, List, length, arith, ◌∙◌}
 use Rattle.fc_wire.specs.Bytes.{u16_at}
 use Rattle.fc_wire.specs.Frames.{IsFrame}
 use Rattle.fc_wire.proofs.Numbers.{two_of_front}
-use Rattle.fc_msg.specs.Faults.{fault_of}
 use Rattle.fc_msg.specs.Messages.{Spells}
 use Rattle.fc_msg.specs.declared.message.Message.{Message}
 use Rattle.fc_msg.proofs.Reading.{enough}

@@ -5,7 +5,6 @@ pub mod Cut
 pub mod Distinct
 pub mod Ending
 pub mod Hearing
-pub mod Holding
 pub mod Judged
 pub mod Looking
 pub mod OpenPeers
@@ -15,6 +14,5 @@ pub mod Reaching
 pub mod Runs
 pub mod Serving
 pub mod Shows
-pub mod Splitting
 pub mod Texts
 pub mod Verdicts

@@ -1,12 +1,10 @@
 pub mod Acting
 pub mod ElementNode
 pub mod ElementRun
-pub mod Lending
 pub mod Nexts
 pub mod Pieces
 pub mod Places
 pub mod Run
 pub mod Show
-pub mod Splitting
 pub mod Stops
 pub mod Text

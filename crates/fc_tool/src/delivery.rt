@@ -6,11 +6,10 @@ ghost use Rattle.fc_tool.specs.Nexts.{IsNextOf};
 
 use crate::acting::{NodeStop, shut};
 use crate::giving::give;
-use crate::splitter::{Splitter, whole_frame};
 use fc_base::Memory;
 use fc_element::{ElIn, Element};
 use fc_hub::Hub;
-use fc_msg::{Message, MsgFault, decode};
+use fc_msg::{Message, MsgFault, Splitter, decode, whole_frame};
 use std::alloc::Global;
 
 /// Gives each whole frame of a peer to the element as a message, sending what the element gives before it goes on, and

@@ -12,12 +12,12 @@ use crate::acting::NodeStop;
 use crate::input::{LIMIT, Look, look_over};
 use crate::node::Node;
 use crate::serve::{Served, serve};
-use crate::splitter::Splitter;
 use crate::stops::{Stop, finish, put};
 use fc_base::{CeId, FeId, Sink, Source};
 use fc_element::Element;
 use fc_hub::Hub;
 use fc_library::{LibFault, library_from_slice, refusal};
+use fc_msg::Splitter;
 use std::alloc::Global;
 
 /// How `element` ended, where all was written.

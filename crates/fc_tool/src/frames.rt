@@ -7,9 +7,8 @@ ghost use Rattle.fc_msg.specs.declared.message.Message.{Message as Spelled};
 ghost use Rattle.fc_text.specs.Text.{message_text};
 ghost use Rattle.fc_tool.specs.Show.{Reaches, text_of};
 
-use crate::splitter::whole_frame;
 use fc_base::Memory;
-use fc_msg::{MsgFault, Refusal, decode};
+use fc_msg::{MsgFault, Refusal, decode, whole_frame};
 use fc_text::show;
 use std::alloc::Global;
 
@@ -28,6 +27,7 @@ pub fn push_frames(alloc: Global, bytes: &[u8], text: &mut Vec<u8>) -> Result<Cu
     ensures few { IfOk result (λ cut. cut.refused ≡ None → length (drop cut.taken bytes.now) < 262144) }
     ensures whole { IfOk result (λ cut. IfSome cut.refused (λ _. frame_len (drop cut.taken bytes.now) ≤ length (drop cut.taken bytes.now))) }
     ensures refused { IfOk result (λ cut. IfSome cut.refused (λ fault. fault_of (take (frame_len (drop cut.taken bytes.now)) (drop cut.taken bytes.now)) ≡ Some fault)) }
+    ensures within { IfOk result (λ cut. IfSome cut.refused (λ fault. fault.place ≤ length (drop cut.taken bytes.now))) }
 {
     let mut at = 0usize;
     'frames: while let Some(size) = whole_frame(&bytes[at..]) {
@@ -47,6 +47,7 @@ pub fn push_frames(alloc: Global, bytes: &[u8], text: &mut Vec<u8>) -> Result<Cu
 fn push_frame(alloc: Global, frame: &[u8], text: &mut Vec<u8>) -> Result<Option<Refusal>, Memory>
     ensures shown { IfOk result (λ refused. refused ≡ None → (m : Spelled) × Spells m frame.now × (text.new.items ≡ text.old.items ++ message_text m)) }
     ensures refused { IfOk result (λ refused. IfSome refused (λ fault. (fault_of frame.now ≡ Some fault) × (text.new.items ≡ text.old.items))) }
+    ensures within { IfOk result (λ refused. IfSome refused (λ fault. fault.place ≤ length frame.now)) }
 {
     match decode(alloc, frame) {
         Ok(message) => {

@@ -2,8 +2,8 @@
 ghost use Rattle.std.specs.Prelude.{◌≡◌, ◌≢◌, ◌≤◌, ◌<◌, []};
 ghost use Rattle.fc_tool.specs.ElementRun.{LookCount, LookEnds};
 
-use crate::splitter::Splitter;
 use fc_base::{Memory, Source, Trouble};
+use fc_msg::Splitter;
 
 /// So many bytes of an input are looked at, and one more shows that there are too many.
 pub const LIMIT: usize = 67_108_864;

@@ -1,8 +1,7 @@
 // Laws of frames, of what is written of them, and of how the input ends.
 ghost use Rattle.std.specs.Prelude.{◌≡◌, ◌⊎◌, List, ℕ, Option, Some, Ok, ◌∷◌, ◌++◌};
-ghost use Rattle.std.specs.List.{AllByRecursion};
 ghost use Rattle.fc_wire.specs.Bytes.{AreBytes};
-ghost use Rattle.fc_wire.specs.Frames.{Frames, IsFrame, IsPartial, joined};
+ghost use Rattle.fc_wire.specs.Frames.{Frames, IsFrame};
 ghost use Rattle.fc_tool.specs.declared.element.ElementEnd.{ElementEnd};
 ghost use Rattle.fc_msg.specs.Faults.{fault_of};
 ghost use Rattle.fc_msg.specs.Messages.{Spells};
@@ -17,22 +16,12 @@ ghost use Rattle.fc_tool.specs.ElementNode.{NodeState, first_node, frames, node_
 ghost use Rattle.fc_tool.specs.Pieces.{AreAlike, MakeTheSame};
 ghost use Rattle.fc_tool.specs.Places.{AreDistinct};
 ghost use Rattle.fc_tool.specs.Show.{AreMessages, IsVerdict, ShowEnds, text_of};
-ghost use Rattle.fc_tool.specs.Splitting.{Call, after_calls, fed, unfed};
 
 /// Bytes spell a message or have exactly one fault, and never both; what spells one is a frame.
 pub fn frame_is_judged_once()
     ensures either { (bytes : List ℕ) → AreBytes bytes → ((m : Message) × Spells m bytes) ⊎ ((fault : Refusal) × (fault_of bytes ≡ Some fault)) }
     ensures never_both { (bytes : List ℕ) (m : Message) (fault : Refusal) → Spells m bytes → fault_of bytes ≡ Some fault → ⊥ }
     ensures frame { (bytes : List ℕ) (m : Message) → Spells m bytes → IsFrame bytes }
-{}
-
-/// Whatever pieces a stream is fed in, and whenever frames are asked for: what was taken are the first frames of the
-/// whole stream, the rest is what stands after them, and where no whole frame is left these are all its frames.
-pub fn any_pieces()
-    ensures taken { (calls : List Call) → (fed calls ≡ joined (after_calls unfed calls).taken ++ (after_calls unfed calls).rest)
-        × AllByRecursion IsFrame (after_calls unfed calls).taken }
-    ensures all { (calls : List Call) → IsPartial (after_calls unfed calls).rest →
-        Frames (fed calls) (after_calls unfed calls).taken (after_calls unfed calls).rest }
 {}
 
 /// Messages of the same frames have the same texts.

@@ -14,7 +14,6 @@ mod node;
 mod peers;
 mod serve;
 mod show;
-mod splitter;
 mod status;
 mod stops;
 #[cfg(test)]
@@ -23,9 +22,8 @@ mod tests;
 pub use command::run;
 pub use element::ElementEnd;
 pub use laws::{
-    any_pieces, bytes_may_be_cut, element_ends_once, frame_is_judged_once, input_ends_once,
+    bytes_may_be_cut, element_ends_once, frame_is_judged_once, input_ends_once,
     node_takes_the_frames, peers_are_distinct, text_is_unique,
 };
 pub use show::Shown;
-pub use splitter::Splitter;
 pub use stops::Stop;

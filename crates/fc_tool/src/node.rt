@@ -7,10 +7,10 @@ use crate::acting::{NodeStop, shut};
 use crate::delivery::deliver;
 use crate::giving::give;
 use crate::peers::{Peer, put, remove};
-use crate::splitter::Splitter;
 use fc_base::{CeId, FeId, Memory};
 use fc_element::{ElIn, Element};
 use fc_hub::{Hub, HubEvent};
+use fc_msg::Splitter;
 use std::alloc::Global;
 
 /// So many peers are open at most.

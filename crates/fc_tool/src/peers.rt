@@ -4,7 +4,7 @@ ghost use Rattle.fc_tool.specs.declared.peers.Peer.{Peer};
 ghost use Rattle.fc_tool.specs.ElementNode.{left_of, peer_with, put_left, without};
 ghost use Rattle.fc_tool.specs.Places.{StandsAt, StandsNowhere};
 
-use crate::splitter::Splitter;
+use fc_msg::Splitter;
 
 /// A peer that is open.
 #[derive(Drop)]

@@ -7,10 +7,9 @@ ghost use Rattle.fc_tool.specs.Stops.{FlushedAt, SinkCount};
 use crate::frames::push_frames;
 use crate::input::{LIMIT, READS, next_piece};
 use crate::line::refusal_line;
-use crate::splitter::Splitter;
 use crate::stops::{Stop, finish, put};
 use fc_base::{Memory, Sink, Source, Trouble};
-use fc_msg::{MsgFault, Refusal, decode};
+use fc_msg::{MsgFault, Refusal, Splitter, decode};
 use std::alloc::Global;
 
 /// How `show` ended, where all was written.

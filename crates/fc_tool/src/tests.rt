@@ -3,7 +3,6 @@ ghost use Rattle.std.specs.List.{list_all};
 ghost use Rattle.fc_hub.specs.Hubs.{is_given};
 
 use crate::run;
-use crate::splitter::Splitter;
 use fc_base::{MemSink, MemSource, Octets, Sink, Source, SureSink, SureSource, Trouble};
 use fc_hub::{Act, HubEvent, MemHub, SureHub};
 use std::alloc::Global;
@@ -345,25 +344,6 @@ fn so_many_bytes_are_looked_at_and_no_more(rt: HostRuntime) -> Result<(), Fail> 
         // A read of 64 KiB is one write, and the refusal one more.
         assert!(rt; out.writes <= 1025);
     }
-    Ok(())
-}
-
-#[test]
-fn a_splitter_lends_the_frames_of_the_stream(rt: HostRuntime) -> Result<(), Fail> {
-    let alloc = rt.alloc();
-    let mut splitter = Splitter::new(alloc);
-    assert!(rt; splitter.next().is_none());
-    let bytes = beats(alloc, 2)?;
-    assert_eq!(rt; bytes.len(), 48);
-    splitter.feed(&bytes[..23])?;
-    assert!(rt; splitter.next().is_none());
-    assert_eq!(rt; splitter.rest().len(), 23);
-    splitter.feed(&bytes[23..47])?;
-    assert_eq!(rt; splitter.next().ok_or("a frame")?, BEAT.as_slice());
-    assert!(rt; splitter.next().is_none());
-    splitter.feed(&bytes[47..])?;
-    assert_eq!(rt; splitter.next().ok_or("a frame")?, BEAT.as_slice());
-    assert_eq!(rt; splitter.rest().len(), 0);
     Ok(())
 }
 

@@ -1,3 +1,4 @@
+use Rattle.fc_msg.proofs.FaultPlaces.{gives_within}
 use Rattle.fc_msg.proofs.Reading.{gives_accepted, gives_exact, gives_only, gives_proper, gives_spelled}
 use Rattle.fc_msg.proofs.decoding.decode.Goals as goal
 
@@ -15,3 +16,6 @@ returns-clause-exact c = gives_exact c.args.bytes.now c.message_of.result c.mess
 
 pub returns-clause-accepted : goal.returns-clause-accepted
 returns-clause-accepted c = gives_accepted c.args.bytes.now c.message_of.result c.message_of.ensures.found
+
+pub returns-clause-within : goal.returns-clause-within
+returns-clause-within c = gives_within c.args.bytes.now c.message_of.result c.are_bytes.ensures c.message_of.ensures.refused

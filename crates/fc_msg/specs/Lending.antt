@@ -2,7 +2,7 @@
 use Rattle.std.specs.Prelude.{◌≡◌, ⊤, List, ℕ}
 use Rattle.std.specs.Borrow.{follows_so, MutBor, Fml}
 use mathlib.Core.Option.{none}
-use Rattle.fc_tool.specs.contracts.splitter.Splitter.{the_row}
+use Rattle.fc_msg.specs.contracts.splitter.Splitter.{the_row}
 
 -- it ends as these bytes
 abbrev pub EndsAs : MutBor (List ℕ) → List ℕ → Fml

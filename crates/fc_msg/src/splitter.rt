@@ -28,7 +28,7 @@ impl Model for Splitter {
 
 impl Splitter {
     ghost use Rattle.std.specs.Borrow.{sem};
-    ghost use Rattle.fc_tool.specs.Lending.{EndsAs};
+    ghost use Rattle.fc_msg.specs.Lending.{EndsAs};
 
     /// Nothing was fed. It takes no memory.
     pub fn new(alloc: Global) -> Self

@@ -7,7 +7,7 @@ use Rattle.std.proofs.lemmas.Grind.{flat_map-append}
 use Rattle.std.proofs.lemmas.List.{take-append-drop}
 use Rattle.fc_wire.specs.Frames.{IsFrame, frame_len, joined, without_first}
 use Rattle.fc_wire.proofs.Cutting.{cut_frame}
-use Rattle.fc_tool.specs.Splitting.{Call, feed, next, Split, after_call, after_calls, fed, first_frame}
+use Rattle.fc_msg.specs.Splitting.{Call, feed, next, Split, after_call, after_calls, fed, first_frame}
 
 first_of_whole : (bytes : List ℕ) → frame_len bytes ≤ length bytes → first_frame bytes ≡ take (frame_len bytes) bytes ∷ []
 first_of_whole bytes le = grind (arith, nat_tests)

@@ -1,7 +1,7 @@
 use Rattle.std.proofs.Common.{refl, []}
-use Rattle.fc_tool.specs.Splitting.{unfed}
-use Rattle.fc_tool.proofs.Splitting.{kept}
-use Rattle.fc_tool.proofs.laws.any_pieces.Goals as goal
+use Rattle.fc_msg.specs.Splitting.{unfed}
+use Rattle.fc_msg.proofs.Splitting.{kept}
+use Rattle.fc_msg.proofs.laws.any_pieces.Goals as goal
 
 pub returns-clause-taken : goal.returns-clause-taken
 returns-clause-taken c = λ calls. kept calls unfed [] refl tt

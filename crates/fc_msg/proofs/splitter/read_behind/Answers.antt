@@ -1,7 +1,7 @@
 use Rattle.std.proofs.Common.{◌≡◌, ◌+◌, ◌-◌, ℕ, List, length, take, drop, arith, ◌∙◌}
 use Rattle.std.proofs.lemmas.List.{length-take-le, length-drop}
-use Rattle.fc_tool.proofs.Holding.{old_front, read_behind}
-use Rattle.fc_tool.proofs.splitter.read_behind.Goals as goal
+use Rattle.fc_msg.proofs.Holding.{old_front, read_behind}
+use Rattle.fc_msg.proofs.splitter.read_behind.Goals as goal
 
 size_of : (xs : List ℕ) (k most : ℕ) → length xs ≡ k + most → length (take (length xs - k) (drop k xs)) ≡ most
 size_of xs k most size = omega (arith, length-take-le (length xs - k) (drop k xs) (omega (arith, length-drop k xs)))
