@@ -1,7 +1,9 @@
 // Reading PATH-DATA from lines.
-ghost use Rattle.std.specs.Prelude.{◌≡◌, ◌≤◌, ◌<◌, ◌+◌, length, OnOk};
+ghost use Rattle.std.specs.Prelude.{◌≡◌, ◌≤◌, ◌<◌, ◌+◌, ◌&&◌, not, length, OnOk};
 ghost use Rattle.fc_text.specs.TextPlaces.{Reads, TextTells};
-ghost use Rattle.fc_text.specs.TextReading.{body_at, code_in, ilv_at, key_in, last_body, leaf_in, many_at, outcome_at, path_by, path_line, paths_by, steps_in};
+ghost use Rattle.fc_path.specs.Kinds.{takes_nothing};
+ghost use Rattle.fc_text.specs.LineWords.{stands_at};
+ghost use Rattle.fc_text.specs.TextReading.{body_at, body_by, code_in, ilv_at, key_in, last_body, leaf_in, many_at, outcome_at, path_by, path_line, paths_by, steps_in};
 
 use crate::TextFault;
 use crate::lines::Lines;
@@ -183,9 +185,42 @@ fn read_path_line(
     read_path(alloc, kind, depth, level, words, lines)
 }
 
-// The body at a level of a PATH-DATA, inside of which so many levels of others may stand.
+// Whether a body ends before its first line, which is not at this level.
+fn is_bare(kind: OperKind, level: usize, lines: &Lines) -> bool
+    requires { level < 20 }
+    ensures { result ≡ (takes_nothing kind && not (stands_at level lines.now.lines)) }
+{
+    kind.takes_nothing() && !lines.stands_at(level)
+}
+
+// The body at a level of a PATH-DATA, inside of which PATH-DATA may stand, and so many levels of others in each.
 #[cycle(read)]
 #[tactic(auto, unfolding(crate::specs::TextReading::body_by))]
+fn read_open_body(
+    alloc: Global,
+    kind: OperKind,
+    depth: usize,
+    level: usize,
+    lines: &mut Lines,
+) -> Result<Body, TextFault>
+    requires { level + depth < 19 }
+    ensures exact { Reads (body_by kind (body_at kind depth) level lines.old) result lines.new }
+    ensures less { OnOk result (length lines.new.lines ≤ length lines.old.lines) }
+{
+    if is_bare(kind, level, lines) {
+        return Ok(Body::Nothing);
+    }
+    let mut words = lines.take(level)?;
+    let word = words.word()?;
+    if is(word.text, b"path") {
+        let paths = read_paths(alloc, kind, depth, level, words, lines)?;
+        return Ok(Body::Nested(paths));
+    }
+    read_leaf(alloc, kind, level, &word, words, lines)
+}
+
+// The body at a level of a PATH-DATA, inside of which so many levels of others may stand.
+#[cycle(read)]
 fn read_body(
     alloc: Global,
     kind: OperKind,
@@ -200,16 +235,7 @@ fn read_body(
     if depth == 0 {
         return read_last_body(alloc, kind, level, lines);
     }
-    if kind.takes_nothing() && !lines.stands_at(level) {
-        return Ok(Body::Nothing);
-    }
-    let mut words = lines.take(level)?;
-    let word = words.word()?;
-    if is(word.text, b"path") {
-        let paths = read_paths(alloc, kind, depth - 1, level, words, lines)?;
-        return Ok(Body::Nested(paths));
-    }
-    read_leaf(alloc, kind, level, &word, words, lines)
+    read_open_body(alloc, kind, depth - 1, level, lines)
 }
 
 /// The PATH-DATA at a level, the first one behind the word `path`, inside of which so many levels of others may stand.
