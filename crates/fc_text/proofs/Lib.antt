@@ -2,3 +2,14 @@ pub mod Decimals
 pub mod Flattening
 pub mod Indents
 pub mod Octets
+pub mod SpelledWords
+pub mod SplitLines
+pub mod PlainWords
+pub mod ReadLines
+pub mod ReadItems
+pub mod ReadPaths
+pub mod ReadMessages
+pub mod WholeLines
+pub mod Completeness
+pub mod Shown
+pub mod TextLaws

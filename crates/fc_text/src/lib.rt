@@ -4,6 +4,7 @@
 mod decimal;
 mod fault;
 mod hexes;
+mod laws;
 mod lines;
 mod message;
 mod named;
@@ -18,6 +19,9 @@ mod values;
 mod words;
 
 pub use fault::TextFault;
+pub use laws::{
+    shown_text_is_read, shown_text_is_spelled, text_is_its_messages, text_is_its_selects,
+};
 pub use message::show;
 pub use read_body::read_body;
 pub use reading::read_text;
