@@ -1,5 +1,6 @@
-pub mod Text
-pub mod TextPlaces
-pub mod WordValues
 pub mod LineWords
+pub mod Text
+pub mod TextGrammar
+pub mod TextPlaces
 pub mod TextReading
+pub mod WordValues

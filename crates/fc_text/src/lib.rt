@@ -5,6 +5,7 @@ mod body;
 mod decimal;
 mod fault;
 mod hexes;
+mod laws;
 mod lines;
 mod message;
 mod named;
@@ -19,5 +20,8 @@ mod words;
 
 pub use body::read_body;
 pub use fault::TextFault;
+pub use laws::{
+    shown_text_is_read, shown_text_is_spelled, text_is_its_messages, text_is_its_selects,
+};
 pub use message::show;
 pub use reading::read_text;

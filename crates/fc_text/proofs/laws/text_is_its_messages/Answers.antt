@@ -1,0 +1,8 @@
+use Rattle.fc_text.proofs.Completeness.{one_text, spelled_text_is_read}
+use Rattle.fc_text.proofs.laws.text_is_its_messages.Goals as goal
+
+pub returns-clause-read : goal.returns-clause-read
+returns-clause-read c = spelled_text_is_read
+
+pub returns-clause-one : goal.returns-clause-one
+returns-clause-one c = one_text
