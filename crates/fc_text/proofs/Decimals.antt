@@ -55,3 +55,46 @@ more_digits n more less =
     ∙ onto 63 (n / 10) (digit_glyph false (n % 10) ∷ [])
     ∙ ap (λ l. l ++ digit_glyph false (n % 10) ∷ []) (room 62 (n / 10) [] (small n less))
     ∙ ap (λ l. decimal (n / 10) ++ l) (glyph_of (n % 10) (omega arith))
+
+-- its last two digits, and its last four
+two_more : (n : ℕ) → 100 ≤ n → n < 2 ^ 32 → decimal n ≡ decimal (n / 100) ++ ((48 + n / 10 % 10) ∷ (48 + n % 10) ∷ [])
+two_more n more less =
+    let tenth_of : n / 10 / 10 ≡ n / 100 = omega arith in
+    more_digits n (omega (arith, more)) less
+    ∙ ap (λ l. l ++ (48 + n % 10) ∷ []) (more_digits (n / 10) (omega (arith, more)) (omega (arith, less)))
+    ∙ append_assoc (decimal (n / 10 / 10)) ((48 + n / 10 % 10) ∷ []) ((48 + n % 10) ∷ [])
+    ∙ ap (λ k. decimal k ++ ((48 + n / 10 % 10) ∷ (48 + n % 10) ∷ [])) tenth_of
+
+pub four_more : (n : ℕ) → 10000 ≤ n → n < 2 ^ 32
+    → decimal n ≡ decimal (n / 10000) ++ ((48 + n / 1000 % 10) ∷ (48 + n / 100 % 10) ∷ (48 + n / 10 % 10) ∷ (48 + n % 10) ∷ [])
+four_more n more less =
+    let hundredth : n / 100 / 100 ≡ n / 10000 = omega arith in
+    let tenth_of : n / 100 / 10 ≡ n / 1000 = omega arith in
+    two_more n (omega (arith, more)) less
+    ∙ ap (λ l. l ++ ((48 + n / 10 % 10) ∷ (48 + n % 10) ∷ [])) (two_more (n / 100) (omega (arith, more)) (omega (arith, less)))
+    ∙ append_assoc (decimal (n / 100 / 100)) _ _
+    ∙ ap (λ k. decimal k ++ ((48 + n / 100 / 10 % 10) ∷ (48 + n / 100 % 10) ∷ (48 + n / 10 % 10) ∷ (48 + n % 10) ∷ [])) hundredth
+    ∙ ap (λ k. decimal (n / 10000) ++ ((48 + k % 10) ∷ (48 + n / 100 % 10) ∷ (48 + n / 10 % 10) ∷ (48 + n % 10) ∷ [])) tenth_of
+
+-- numbers of two, three and four digits
+pub two_digits : (n : ℕ) → 10 ≤ n → n < 100 → decimal n ≡ (48 + n / 10 % 10) ∷ (48 + n % 10) ∷ []
+two_digits n more less =
+    let small_tenth : n / 10 ≡ n / 10 % 10 = omega (arith, less) in
+    more_digits n more (omega (arith, less))
+    ∙ ap (λ l. l ++ (48 + n % 10) ∷ []) (one_digit (n / 10) (omega (arith, less)))
+    ∙ ap (λ k. (48 + k) ∷ (48 + n % 10) ∷ []) small_tenth
+
+pub three_digits : (n : ℕ) → 100 ≤ n → n < 1000 → decimal n ≡ (48 + n / 100 % 10) ∷ (48 + n / 10 % 10) ∷ (48 + n % 10) ∷ []
+three_digits n more less =
+    let small_hundredth : n / 100 ≡ n / 100 % 10 = omega (arith, less) in
+    two_more n more (omega (arith, less))
+    ∙ ap (λ l. l ++ ((48 + n / 10 % 10) ∷ (48 + n % 10) ∷ [])) (one_digit (n / 100) (omega (arith, less)))
+    ∙ ap (λ k. (48 + k) ∷ (48 + n / 10 % 10) ∷ (48 + n % 10) ∷ []) small_hundredth
+
+pub four_digits : (n : ℕ) → 1000 ≤ n → n < 10000
+    → decimal n ≡ (48 + n / 1000 % 10) ∷ (48 + n / 100 % 10) ∷ (48 + n / 10 % 10) ∷ (48 + n % 10) ∷ []
+four_digits n more less =
+    let tenth_of : n / 100 / 10 ≡ n / 1000 = omega arith in
+    two_more n (omega (arith, more)) (omega (arith, less))
+    ∙ ap (λ l. l ++ ((48 + n / 10 % 10) ∷ (48 + n % 10) ∷ [])) (two_digits (n / 100) (omega (arith, more)) (omega (arith, less)))
+    ∙ ap (λ k. (48 + k % 10) ∷ (48 + n / 100 % 10) ∷ (48 + n / 10 % 10) ∷ (48 + n % 10) ∷ []) tenth_of

@@ -17,6 +17,15 @@ hex_text_8 (x0 ∷ x1 ∷ x2 ∷ x3 ∷ x4 ∷ x5 ∷ []) e = absurd (omega arit
 hex_text_8 (x0 ∷ x1 ∷ x2 ∷ x3 ∷ x4 ∷ x5 ∷ x6 ∷ []) e = absurd (omega arith)
 hex_text_8 (x0 ∷ x1 ∷ x2 ∷ x3 ∷ x4 ∷ x5 ∷ x6 ∷ x7 ∷ x8 ∷ xs) e = absurd (omega arith)
 
+pub hex_text_4 : (xs : List ℕ) → length xs ≡ 4 → hex_text xs ≡ hex_digit (slice_index xs 0 / 16 % 16) ∷ hex_digit (slice_index xs 0 % 16) ∷ hex_digit (slice_index xs 1 / 16 % 16) ∷ hex_digit (slice_index xs 1 % 16) ∷ hex_digit (slice_index xs 2 / 16 % 16) ∷ hex_digit (slice_index xs 2 % 16) ∷ hex_digit (slice_index xs 3 / 16 % 16) ∷ hex_digit (slice_index xs 3 % 16) ∷ []
+unfolding hex
+hex_text_4 (x0 ∷ x1 ∷ x2 ∷ x3 ∷ []) e = refl
+hex_text_4 [] e = absurd (omega arith)
+hex_text_4 (x0 ∷ []) e = absurd (omega arith)
+hex_text_4 (x0 ∷ x1 ∷ []) e = absurd (omega arith)
+hex_text_4 (x0 ∷ x1 ∷ x2 ∷ []) e = absurd (omega arith)
+hex_text_4 (x0 ∷ x1 ∷ x2 ∷ x3 ∷ x4 ∷ xs) e = absurd (omega arith)
+
 -- the digits of a front went over to the text
 pub spelled_on : (text front more rest whole : List ℕ) → rest ≡ front ++ more → text ++ hex_text rest ≡ whole → (text ++ hex_text front) ++ hex_text more ≡ whole
 spelled_on text front more rest whole split e = rw append_assoc (ap (λ l. text ++ l) (sym (ap hex_text split ∙ flat_map-append (λ byte. hex 2 byte) front more)) ∙ e)

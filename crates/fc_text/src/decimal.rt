@@ -1,7 +1,44 @@
 // Decimal numbers.
-ghost use Rattle.std.specs.Prelude.{◌≡◌, ◌++◌, decimal, OnOk};
+ghost use Rattle.std.specs.Prelude.{◌≡◌, ◌++◌, ◌+◌, ◌/◌, ◌%◌, ◌∷◌, [], decimal, OnOk};
 
 use fc_base::Memory;
+
+// The last digit of a number.
+#[inline(always)]
+fn last_digit(n: u32) -> u8
+    ensures { result ≡ 48 + n % 10 }
+{
+    b'0' + (n % 10) as u8
+}
+
+// The last two digits of a number.
+#[inline(always)]
+fn last_two(n: u32) -> [u8; 2]
+    ensures { result ≡ (48 + n / 10 % 10) ∷ (48 + n % 10) ∷ [] }
+{
+    [last_digit(n / 10), last_digit(n)]
+}
+
+// The last three digits of a number.
+#[inline(always)]
+fn last_three(n: u32) -> [u8; 3]
+    ensures { result ≡ (48 + n / 100 % 10) ∷ (48 + n / 10 % 10) ∷ (48 + n % 10) ∷ [] }
+{
+    [last_digit(n / 100), last_digit(n / 10), last_digit(n)]
+}
+
+// The last four digits of a number.
+#[inline(always)]
+fn last_four(n: u32) -> [u8; 4]
+    ensures { result ≡ (48 + n / 1000 % 10) ∷ (48 + n / 100 % 10) ∷ (48 + n / 10 % 10) ∷ (48 + n % 10) ∷ [] }
+{
+    [
+        last_digit(n / 1000),
+        last_digit(n / 100),
+        last_digit(n / 10),
+        last_digit(n),
+    ]
+}
 
 /// Appends the number without leading zeros.
 pub fn push_decimal(into: &mut Vec<u8>, n: u32) -> Result<(), Memory>
@@ -11,7 +48,19 @@ pub fn push_decimal(into: &mut Vec<u8>, n: u32) -> Result<(), Memory>
         into.push(b'0' + n as u8)?;
         return Ok(());
     }
-    push_decimal(into, n / 10)?;
-    into.push(b'0' + (n % 10) as u8)?;
+    if n < 100 {
+        into.extend_from_slice(&last_two(n))?;
+        return Ok(());
+    }
+    if n < 1000 {
+        into.extend_from_slice(&last_three(n))?;
+        return Ok(());
+    }
+    if n < 10000 {
+        into.extend_from_slice(&last_four(n))?;
+        return Ok(());
+    }
+    push_decimal(into, n / 10000)?;
+    into.extend_from_slice(&last_four(n))?;
     Ok(())
 }

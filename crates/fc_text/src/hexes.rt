@@ -54,6 +54,46 @@ fn digits_of(b: &[u8; 8]) -> [u8; 16]
     ]
 }
 
+#[inline(always)]
+fn digits_of_four(b: &[u8; 4]) -> [u8; 8]
+    ensures { result ≡ hex_text b.now }
+{
+    [
+        high(b[0]),
+        low(b[0]),
+        high(b[1]),
+        low(b[1]),
+        high(b[2]),
+        low(b[2]),
+        high(b[3]),
+        low(b[3]),
+    ]
+}
+
+// Appends the two digits of each byte, one byte after the other.
+fn push_each(into: &mut Vec<u8>, bytes: &[u8]) -> Result<(), Memory>
+    ensures { OnOk result (into.new.items ≡ into.old.items ++ hex_text bytes.now) }
+{
+    'bytes: for byte in bytes {
+        into.extend_from_slice(&[high(*byte), low(*byte)])?;
+    }
+    Ok(())
+}
+
+// Appends the two digits of each byte, the first four at once.
+#[inline(always)]
+fn push_few(into: &mut Vec<u8>, bytes: &[u8]) -> Result<(), Memory>
+    ensures { OnOk result (into.new.items ≡ into.old.items ++ hex_text bytes.now) }
+{
+    match bytes.split_first_chunk::<4>() {
+        Some((front, more)) => {
+            into.extend_from_slice(&digits_of_four(front))?;
+            push_each(into, more)
+        }
+        None => push_each(into, bytes),
+    }
+}
+
 // Appends the two digits of each byte.
 fn push_hex(into: &mut Vec<u8>, bytes: &[u8]) -> Result<(), Memory>
     ensures { OnOk result (into.new.items ≡ into.old.items ++ hex_text bytes.now) }
@@ -63,10 +103,7 @@ fn push_hex(into: &mut Vec<u8>, bytes: &[u8]) -> Result<(), Memory>
         into.extend_from_slice(&digits_of(front))?;
         rest = more;
     }
-    'bytes: for byte in rest {
-        into.extend_from_slice(&[high(*byte), low(*byte)])?;
-    }
-    Ok(())
+    push_few(into, rest)
 }
 
 /// Appends the word for bytes: two digits for each, or `-` where there are none.

@@ -179,8 +179,24 @@ fn push_line(into: &mut Vec<u8>, name: &[u8]) -> Result<(), Memory>
     Ok(())
 }
 
-// Two spaces for each level.
+// Two spaces for each level. The levels that are met most are appended at once.
+#[inline(always)]
 fn push_indent(into: &mut Vec<u8>, level: usize) -> Result<(), Memory>
+    ensures { OnOk result (into.new.items ≡ into.old.items ++ indent level) }
+{
+    if level == 3 {
+        into.extend_from_slice(b"      ")?;
+        return Ok(());
+    }
+    if level == 4 {
+        into.extend_from_slice(b"        ")?;
+        return Ok(());
+    }
+    push_spaces(into, level)
+}
+
+// Two spaces for each level, one level after the other.
+fn push_spaces(into: &mut Vec<u8>, level: usize) -> Result<(), Memory>
     ensures { OnOk result (into.new.items ≡ into.old.items ++ indent level) }
 {
     for _ in 0..level {

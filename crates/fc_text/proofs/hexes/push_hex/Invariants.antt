@@ -1,4 +1,4 @@
-use Rattle.std.proofs.Common.{◌≡◌, ◌++◌, length, drop}
+use Rattle.std.proofs.Common.{◌≡◌, ◌++◌, length}
 use Rattle.fc_text.specs.Text.{hex_text}
 use Rattle.fc_text.proofs.hexes.push_hex.Given as goal
 
@@ -7,6 +7,3 @@ invariant-eights l = l.into.items ++ hex_text l.rest ≡ l.fn.into.items ++ hex_
 
 abbrev pub decreases-eights : goal.decreases-eights
 decreases-eights l = length l.rest
-
-abbrev pub invariant-bytes : goal.invariant-bytes
-invariant-bytes l = l.into.items ++ hex_text (drop l.byte-index l.byte-items) ≡ l.fn.into.items ++ hex_text l.bytes
