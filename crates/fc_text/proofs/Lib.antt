@@ -2,3 +2,4 @@ pub mod Decimals
 pub mod Flattening
 pub mod Indents
 pub mod Octets
+pub mod Appending
