@@ -23,8 +23,8 @@ fn read_number(tlv: &Tlv) -> Result<u32, PathFault>
     Ok(read_u32(tlv.body, 0))
 }
 
-// The number in the only TLV of a body, which has this type. What is missing has its place at the end.
-fn read_only_number(kind: u16, mut tlvs: Tlvs, end: usize) -> Result<u32, PathFault>
+/// The number in the only TLV of a body, which has this type. What is missing has its place at the end.
+pub fn read_only_number(kind: u16, mut tlvs: Tlvs, end: usize) -> Result<u32, PathFault>
     ensures { Gives result (single kind number_at end tlvs.entry.items tlvs.entry.fault) }
 {
     match tlvs.next() {

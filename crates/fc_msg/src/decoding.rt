@@ -56,8 +56,8 @@ fn message_of(alloc: Global, bytes: &[u8]) -> Result<Message, MsgFault>
     })
 }
 
-// The header of bytes that are as many as it says, of a type that is taken.
-fn headed(bytes: &[u8]) -> Result<Header, Refusal>
+/// The header of bytes that are as many as it says, of a type that is taken, or the first rule of these that they break.
+pub fn headed(bytes: &[u8]) -> Result<Header, Refusal>
     ensures header { IfOk result (λ h. IsHeader h (take 24 bytes.now)) }
     ensures kind { IfOk result (λ h. h.kind ≡ slice_index bytes.now 1) }
     ensures size { IfOk result (λ h. length bytes.now ≡ 4 * h.words) }

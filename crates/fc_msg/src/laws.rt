@@ -1,5 +1,5 @@
 // Laws of messages and their bytes, and of the frames of a stream.
-ghost use Rattle.std.specs.Prelude.{◌≡◌, ◌<◌, ◌+◌, ◌%◌, ◌^◌, ◌++◌, ◌⊎◌, ◌↔◌, [], List, ℕ, length, Option, Some, None, Ok, Err, true};
+ghost use Rattle.std.specs.Prelude.{◌≡◌, ◌<◌, ◌≤◌, ◌+◌, ◌%◌, ◌^◌, ◌++◌, ◌⊎◌, ◌↔◌, [], List, ℕ, length, Option, Some, None, Ok, Err, true};
 ghost use Rattle.std.specs.List.{AllByRecursion};
 ghost use Rattle.fc_wire.specs.Bytes.{AreBytes};
 ghost use Rattle.fc_wire.specs.Frames.{Frames, IsFrame, IsPartial, joined};
@@ -54,11 +54,12 @@ pub fn body_faults_are_in_reading_order()
 
 /// What is told of bytes is what the first test tells that tells anything, in the list of all: the rules of the header,
 /// those of the type, and the tests of the body in reading order, whose places never fall. None tells anything exactly
-/// where the bytes spell a message.
+/// where the bytes spell a message. The place that is told is within the bytes or at their end.
 pub fn first_broken_rule_is_told()
     ensures first { (bytes : List ℕ) (told : Refusal) → (fault_of bytes ≡ Some told) ↔ FirstTold told (tests_of bytes) }
     ensures rising { (bytes : List ℕ) → AreBytes bytes → head_fault bytes ≡ None → AreRising 24 (visits_in bytes) }
     ensures spelled { (bytes : List ℕ) → AreBytes bytes → ((m : Message) × Spells m bytes) ↔ AllByRecursion IsPassed (tests_of bytes) }
+    ensures within { (bytes : List ℕ) (told : Refusal) → AreBytes bytes → fault_of bytes ≡ Some told → told.place ≤ length bytes }
 {}
 
 /// Whatever pieces a stream is fed in, and whenever frames are asked for: what was taken are the first frames of the

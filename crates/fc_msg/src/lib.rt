@@ -11,12 +11,16 @@ mod splitter;
 #[cfg(test)]
 mod tests;
 
-pub use decoding::decode;
+pub use body::read_only_number;
+pub use decoding::{decode, headed};
 pub use encoding::encode;
 pub use fault::{MsgFault, Reason, Refusal};
 pub use laws::{
     any_pieces, body_faults_are_in_reading_order, canonical_is_spelled, first_broken_rule_is_told,
     judged_once, message_is_unique, no_spelling_is_a_front_of_another,
 };
-pub use message::{Message, MsgBody};
+pub use message::{
+    AS_REASON, AS_RESULT, CONFIG, CONFIG_RESPONSE, EVENT, HEARTBEAT, Message, MsgBody, QUERY,
+    QUERY_RESPONSE, SETUP, SETUP_RESPONSE, TEARDOWN,
+};
 pub use splitter::{Splitter, whole_frame};

@@ -16,13 +16,16 @@ mod tests;
 mod write;
 
 pub use fault::PathFault;
-pub use kinds::{Operation, operation_for};
+pub use kinds::{Operation, holds_selects, operation_for};
 pub use laws::{
     faults_are_in_reading_order, reading_is_the_grammar, selects_are_unique,
     written_selects_are_read,
 };
 pub use oper::{Leaf, Oper, OperKind, Select, Spot, Step};
 pub use path::{Body, Key, PathData};
+pub use read_path::read_only_outcome;
 pub use read_select::are_bytes;
 pub use results::fits_results;
-pub use stray::{misplaced, no_more};
+pub use stray::{
+    FULL_DATA, PATH_DATA, SELECT, is_known_in_select, misplaced, no_more, no_more_bodies,
+};

@@ -145,6 +145,18 @@ fn read_select(alloc: Global, message: u8, tlv: &Tlv, padded: &[u8]) -> Result<S
     })
 }
 
+impl PathData {
+    /// The PATH-DATA of an operation that a TLV is, or the first rule in reading order that the TLV breaks.
+    pub fn read(alloc: Global, kind: OperKind, tlv: &Tlv) -> Result<PathData, PathFault>
+        ensures { Gives result (path_or is_misplaced (path_at kind 16) tlv.now) }
+    {
+        if tlv.kind != PATH_DATA {
+            return Err(misplaced(tlv));
+        }
+        read_path(alloc, kind, DEPTH, tlv)
+    }
+}
+
 /// That the items of a slice of bytes are bytes, for proofs: it does nothing.
 #[inline(always)]
 pub fn are_bytes(bytes: &[u8])

@@ -1,3 +1,4 @@
+pub mod Appending
 pub mod Completeness
 pub mod Cutting
 pub mod Decimals

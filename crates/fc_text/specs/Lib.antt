@@ -1,3 +1,4 @@
+pub mod Appending
 pub mod LineWords
 pub mod Text
 pub mod TextGrammar

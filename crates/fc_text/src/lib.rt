@@ -13,6 +13,8 @@ mod names;
 mod read_path;
 mod read_select;
 mod reading;
+mod shown;
+mod telling;
 #[cfg(test)]
 mod tests;
 mod values;
@@ -25,3 +27,4 @@ pub use laws::{
 };
 pub use message::show;
 pub use reading::read_text;
+pub use shown::show_bytes;

@@ -32,9 +32,9 @@ fn push_head(into: &mut Vec<u8>, message: &Message) -> Result<(), Memory>
     Ok(())
 }
 
-// What stands in that line behind the name.
+/// What stands in that line behind the name.
 #[inline(always)]
-fn fields(message: &Message) -> [u8; 64]
+pub fn fields(message: &Message) -> [u8; 64]
     ensures { result ≡ fields_text message.now }
 {
     let source = eight_digits(message.source);
@@ -68,8 +68,8 @@ fn push_content(into: &mut Vec<u8>, body: &MsgBody) -> Result<(), Memory>
     }
 }
 
-// A line with a number.
-fn push_number(into: &mut Vec<u8>, name: &[u8], number: u32) -> Result<(), Memory>
+/// A line with a number.
+pub fn push_number(into: &mut Vec<u8>, name: &[u8], number: u32) -> Result<(), Memory>
     ensures { OnOk result (into.new.items ≡ into.old.items ++ number_text name.now number) }
 {
     into.extend_from_slice(name)?;
@@ -94,7 +94,8 @@ fn push_select(into: &mut Vec<u8>, select: &Select) -> Result<(), Memory>
     push_opers(into, select.opers.as_slice())
 }
 
-fn push_select_line(into: &mut Vec<u8>, class: u32, instance: u32) -> Result<(), Memory>
+/// The line of an LFBselect.
+pub fn push_select_line(into: &mut Vec<u8>, class: u32, instance: u32) -> Result<(), Memory>
     ensures { OnOk result (into.new.items ≡ into.old.items ++ select_line class instance) }
 {
     into.extend_from_slice(&names(class, instance))?;
@@ -159,8 +160,8 @@ fn push_oper(into: &mut Vec<u8>, oper: &Oper) -> Result<(), Memory>
     }
 }
 
-// The lines of a COMMIT-RESPONSE.
-fn push_response(into: &mut Vec<u8>, code: Code) -> Result<(), Memory>
+/// The lines of a COMMIT-RESPONSE.
+pub fn push_response(into: &mut Vec<u8>, code: Code) -> Result<(), Memory>
     ensures { OnOk result (into.new.items ≡ into.old.items ++ response_text code) }
 {
     push_line(into, b"COMMIT-RESPONSE")?;
@@ -168,9 +169,9 @@ fn push_response(into: &mut Vec<u8>, code: Code) -> Result<(), Memory>
     Ok(())
 }
 
-// The line of an operation.
+/// The line of an operation.
 #[tactic(auto, unfolding(crate::specs::Text::oper_line))]
-fn push_line(into: &mut Vec<u8>, name: &[u8]) -> Result<(), Memory>
+pub fn push_line(into: &mut Vec<u8>, name: &[u8]) -> Result<(), Memory>
     ensures { OnOk result (into.new.items ≡ into.old.items ++ oper_line name.now) }
 {
     into.extend_from_slice(b"    ")?;
@@ -237,8 +238,9 @@ fn push_paths(into: &mut Vec<u8>, level: usize, paths: &[PathData]) -> Result<()
     Ok(())
 }
 
+/// The lines of a PATH-DATA at a level.
 #[cycle(show)]
-fn push_path(into: &mut Vec<u8>, level: usize, path: &PathData) -> Result<(), Memory>
+pub fn push_path(into: &mut Vec<u8>, level: usize, path: &PathData) -> Result<(), Memory>
     ensures { OnOk result (into.new.items ≡ into.old.items ++ path_text path.now level) }
 {
     push_path_line(into, level, path.ids.as_slice(), &path.key)?;

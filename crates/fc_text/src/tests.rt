@@ -1,5 +1,5 @@
 // Texts of messages whose bytes stand in the specification of the format.
-use crate::{TextFault, read_body, read_text, show};
+use crate::{TextFault, read_body, read_text, show, show_bytes};
 use fc_msg::{decode, encode};
 use std::alloc::{AllocError, Global};
 use std::test::Fail;
@@ -82,6 +82,11 @@ fn each_kind_of_line_is_shown(rt: HostRuntime) -> Result<(), Fail> {
         let mut text = Vec::new(alloc);
         show(&message, &mut text).ok().ok_or("memory")?;
         assert_eq!(rt; text.as_slice(), wanted.as_bytes(), "{digits}");
+        let mut appended = Vec::new(alloc);
+        show_bytes(alloc, bytes.as_slice(), &mut appended)
+            .ok()
+            .ok_or("a text")?;
+        assert_eq!(rt; appended.as_slice(), wanted.as_bytes(), "{digits}");
     }
     Ok(())
 }

@@ -8,8 +8,8 @@ ghost use Rattle.fc_text.specs.Text.{message_text};
 ghost use Rattle.fc_tool.specs.Show.{Reaches, text_of};
 
 use fc_base::Memory;
-use fc_msg::{MsgFault, Refusal, decode, whole_frame};
-use fc_text::show;
+use fc_msg::{MsgFault, Refusal, whole_frame};
+use fc_text::show_bytes;
 use std::alloc::Global;
 
 /// How far the frames of some bytes were shown, and why no further: a frame is refused, or not whole.
@@ -29,9 +29,10 @@ pub fn push_frames(alloc: Global, bytes: &[u8], text: &mut Vec<u8>) -> Result<Cu
     ensures refused { IfOk result (λ cut. IfSome cut.refused (λ fault. fault_of (take (frame_len (drop cut.taken bytes.now)) (drop cut.taken bytes.now)) ≡ Some fault)) }
     ensures within { IfOk result (λ cut. IfSome cut.refused (λ fault. fault.place ≤ length (drop cut.taken bytes.now))) }
 {
+    let mut lines = Vec::new(alloc);
     let mut at = 0usize;
     'frames: while let Some(size) = whole_frame(&bytes[at..]) {
-        let refused = push_frame(alloc, &bytes[at..at + size], text)?;
+        let refused = push_frame(alloc, &bytes[at..at + size], &mut lines, text)?;
         if refused.is_some() {
             return Ok(Cut { taken: at, refused });
         }
@@ -43,15 +44,22 @@ pub fn push_frames(alloc: Global, bytes: &[u8], text: &mut Vec<u8>) -> Result<Cu
     })
 }
 
-// Appends the text of the message that a frame spells, or tells why it spells none.
-fn push_frame(alloc: Global, frame: &[u8], text: &mut Vec<u8>) -> Result<Option<Refusal>, Memory>
+// Appends the text of the message that a frame spells, or tells why it spells none. Its lines are gathered apart, since
+// some of them may stand there before a rule is seen to be broken.
+fn push_frame(
+    alloc: Global,
+    frame: &[u8],
+    lines: &mut Vec<u8>,
+    text: &mut Vec<u8>,
+) -> Result<Option<Refusal>, Memory>
     ensures shown { IfOk result (λ refused. refused ≡ None → (m : Spelled) × Spells m frame.now × (text.new.items ≡ text.old.items ++ message_text m)) }
     ensures refused { IfOk result (λ refused. IfSome refused (λ fault. (fault_of frame.now ≡ Some fault) × (text.new.items ≡ text.old.items))) }
     ensures within { IfOk result (λ refused. IfSome refused (λ fault. fault.place ≤ length frame.now)) }
 {
-    match decode(alloc, frame) {
-        Ok(message) => {
-            show(&message, text)?;
+    lines.clear();
+    match show_bytes(alloc, frame, lines) {
+        Ok(()) => {
+            text.extend_from_slice(lines.as_slice())?;
             Ok(None)
         }
         Err(MsgFault::At(refusal)) => Ok(Some(refusal)),

@@ -1,3 +1,4 @@
+use Rattle.fc_msg.proofs.FaultPlaces.{fault_low}
 use Rattle.fc_msg.proofs.Told.{first_told, message_rises, spelled_passed}
 use Rattle.fc_msg.proofs.laws.first_broken_rule_is_told.Goals as goal
 
@@ -9,3 +10,6 @@ returns-clause-rising c = message_rises
 
 pub returns-clause-spelled : goal.returns-clause-spelled
 returns-clause-spelled c = spelled_passed
+
+pub returns-clause-within : goal.returns-clause-within
+returns-clause-within c = fault_low

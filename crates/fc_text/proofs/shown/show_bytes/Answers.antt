@@ -1,0 +1,8 @@
+use Rattle.fc_text.proofs.Appending.{all_spelled, all_within}
+use Rattle.fc_text.proofs.shown.show_bytes.Goals as goal
+
+pub returns-clause-shown : goal.returns-clause-shown
+returns-clause-shown c = all_spelled c.tell.result c.args.bytes.now c.args.into.now.items c.tell.new.into.items c.are_bytes.ensures c.tell.ensures.shown
+
+pub returns-clause-within : goal.returns-clause-within
+returns-clause-within c = all_within c.tell.result c.args.bytes.now c.are_bytes.ensures c.first_broken_rule_is_told.ensures.within c.tell.ensures.refused

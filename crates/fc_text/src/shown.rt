@@ -1,0 +1,121 @@
+// Frames as text, without the messages that they spell.
+ghost use Rattle.std.specs.Prelude.{◌≡◌, ◌++◌, length, Some, OnOk, IfOk, IfErr};
+ghost use Rattle.fc_msg.specs.Bodies.{body_at};
+ghost use Rattle.fc_msg.specs.Decoding.{IsWithin, Refuses};
+ghost use Rattle.fc_msg.specs.Faults.{fault_of};
+ghost use Rattle.fc_msg.specs.Messages.{Spells};
+ghost use Rattle.fc_msg.specs.Reading.{message_in};
+ghost use Rattle.fc_msg.specs.declared.message.Message.{Message as Spelled};
+ghost use Rattle.fc_text.specs.Text.{content_text, fields_text, message_text};
+ghost use Rattle.fc_text.specs.Appending.{Tells, bare, type_name};
+
+use crate::message::{fields, push_number};
+use crate::telling::{tell_selects, tell_some_selects};
+use fc_base::Memory;
+use fc_msg::{
+    AS_REASON, AS_RESULT, CONFIG, CONFIG_RESPONSE, EVENT, HEARTBEAT, Message, MsgBody, MsgFault,
+    QUERY, QUERY_RESPONSE, SETUP, SETUP_RESPONSE, TEARDOWN, first_broken_rule_is_told, headed,
+    read_only_number,
+};
+use fc_path::{PathFault, are_bytes, no_more};
+use fc_wire::{Header, Tlvs};
+use std::alloc::Global;
+
+// The name of a type.
+fn name_of(kind: u8) -> &'static str
+    ensures { result.now ≡ type_name kind }
+{
+    match kind {
+        HEARTBEAT => "Heartbeat",
+        SETUP_RESPONSE => "AssociationSetupResponse",
+        TEARDOWN => "AssociationTeardown",
+        SETUP => "AssociationSetup",
+        CONFIG => "Config",
+        CONFIG_RESPONSE => "ConfigResponse",
+        QUERY => "Query",
+        QUERY_RESPONSE => "QueryResponse",
+        EVENT => "EventNotification",
+        _ => "AssociationSetup",
+    }
+}
+
+// The lines of a body of a type, whose TLVs go on to an end.
+fn tell_body(
+    alloc: Global,
+    into: &mut Vec<u8>,
+    kind: u8,
+    tlvs: Tlvs,
+    end: usize,
+) -> Result<(), PathFault>
+    ensures { Tells result (body_at kind end tlvs.entry.items tlvs.entry.fault) content_text into.old.items into.new.items }
+{
+    match kind {
+        HEARTBEAT => no_more(tlvs),
+        SETUP_RESPONSE => {
+            let result = read_only_number(AS_RESULT, tlvs, end)?;
+            push_number(into, b"  result ", result)?;
+            Ok(())
+        }
+        TEARDOWN => {
+            let reason = read_only_number(AS_REASON, tlvs, end)?;
+            push_number(into, b"  reason ", reason)?;
+            Ok(())
+        }
+        SETUP => tell_selects(alloc, into, kind, tlvs),
+        _ => tell_some_selects(alloc, into, kind, tlvs, end),
+    }
+}
+
+// The line of a header of a type, whose other fields are those of a message.
+fn tell_head(into: &mut Vec<u8>, kind: u8, head: &Message) -> Result<(), Memory>
+    ensures { OnOk result (into.new.items ≡ into.old.items ++ (type_name kind ++ fields_text head.now)) }
+{
+    into.extend_from_slice(name_of(kind).as_bytes())?;
+    into.extend_from_slice(&fields(head))?;
+    Ok(())
+}
+
+// A message with the fields of a header and no body.
+fn head_of(header: &Header) -> Message
+    ensures { result ≡ bare header.now }
+{
+    Message {
+        source: header.source,
+        dest: header.dest,
+        corr: header.corr,
+        flags: header.flags,
+        body: MsgBody::Heartbeat,
+    }
+}
+
+// Appends the text of the message in bytes.
+fn tell(alloc: Global, bytes: &[u8], into: &mut Vec<u8>) -> Result<(), MsgFault>
+    ensures shown { IfOk result (λ _. (m : Spelled) × (message_in bytes.now ≡ Some m) × (into.new.items ≡ into.old.items ++ message_text m)) }
+    ensures refused { IfErr result (λ fault. Refuses (fault_of bytes.now) fault) }
+{
+    let header = match headed(bytes) {
+        Ok(header) => header,
+        Err(refusal) => return Err(MsgFault::At(refusal)),
+    };
+    match tell_head(into, header.kind, &head_of(&header)) {
+        Ok(()) => {}
+        Err(_) => return Err(MsgFault::Memory),
+    }
+    let tlvs = Tlvs::over(&bytes[24..], 24);
+    match tell_body(alloc, into, header.kind, tlvs, bytes.len()) {
+        Ok(()) => Ok(()),
+        Err(fault) => Err(MsgFault::from(fault)),
+    }
+}
+
+/// Appends the text of the message that bytes spell, or tells the first rule that they break, with its place. The message
+/// is never held whole: each part is appended as soon as it is read. After an `Err` some of the text may stand there.
+pub fn show_bytes(alloc: Global, bytes: &[u8], into: &mut Vec<u8>) -> Result<(), MsgFault>
+    ensures shown { IfOk result (λ _. (m : Spelled) × Spells m bytes.now × (into.new.items ≡ into.old.items ++ message_text m)) }
+    ensures refused { IfErr result (λ fault. Refuses (fault_of bytes.now) fault) }
+    ensures within { IfErr result (λ fault. IsWithin (length bytes.now) fault) }
+{
+    are_bytes(bytes);
+    first_broken_rule_is_told();
+    tell(alloc, bytes, into)
+}
