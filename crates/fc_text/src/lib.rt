@@ -4,6 +4,7 @@
 mod body;
 mod decimal;
 mod fault;
+mod frames;
 mod hexes;
 mod laws;
 mod lines;
@@ -13,7 +14,6 @@ mod names;
 mod read_path;
 mod read_select;
 mod reading;
-mod shown;
 mod telling;
 #[cfg(test)]
 mod tests;
@@ -22,9 +22,9 @@ mod words;
 
 pub use body::read_body;
 pub use fault::TextFault;
+pub use frames::show_bytes;
 pub use laws::{
     shown_text_is_read, shown_text_is_spelled, text_is_its_messages, text_is_its_selects,
 };
 pub use message::show;
 pub use reading::read_text;
-pub use shown::show_bytes;

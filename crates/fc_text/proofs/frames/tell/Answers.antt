@@ -6,7 +6,7 @@ use Rattle.fc_msg.proofs.Reading.{body_refuses, head_refuses}
 use Rattle.fc_text.specs.Text.{fields_text}
 use Rattle.fc_text.specs.Appending.{type_name}
 use Rattle.fc_text.proofs.Appending.{shown_by}
-use Rattle.fc_text.proofs.shown.tell.Goals as goal
+use Rattle.fc_text.proofs.frames.tell.Goals as goal
 
 pub returns-in-Err-clause-refused : goal.returns-in-Err-clause-refused
 returns-in-Err-clause-refused c = head_refuses c.args.bytes.now c.in-Err.refusal c.in-Err.ensures.refused
