@@ -13,3 +13,7 @@ pub mod WholeLines
 pub mod Completeness
 pub mod Shown
 pub mod TextLaws
+pub mod SoundValues
+pub mod SoundWords
+pub mod SoundPaths
+pub mod SoundMessages

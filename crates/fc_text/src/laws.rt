@@ -1,5 +1,5 @@
 // Laws of texts.
-ghost use Rattle.std.specs.Prelude.{◌≡◌, ◌∷◌, [], ℕ, List, Ok};
+ghost use Rattle.std.specs.Prelude.{◌≡◌, ◌↔◌, ◌∷◌, [], ℕ, List, Ok};
 ghost use Rattle.std.specs.List.{flat_map, AllByRecursion};
 ghost use Rattle.fc_path.specs.declared.oper.Select.{Select};
 ghost use Rattle.fc_msg.specs.declared.message.Message.{Message};
@@ -7,7 +7,20 @@ ghost use Rattle.fc_text.specs.Text.{message_text};
 ghost use Rattle.fc_text.specs.TextGrammar.{HasText, SpellsSelects, SpellsText};
 ghost use Rattle.fc_text.specs.TextReading.{body_in, text_in};
 
-/// What is printed of messages is a text of them, for exactly the messages that have a text.
+/// Reading gives messages exactly where the bytes are a text of them, and no bytes are a text of two lists of messages.
+pub fn text_is_its_messages()
+    ensures same { (ms : List Message) (bytes : List ℕ) → (text_in bytes ≡ Ok ms) ↔ SpellsText ms bytes }
+    ensures one { (ms ns : List Message) (bytes : List ℕ) → SpellsText ms bytes → SpellsText ns bytes → ms ≡ ns }
+{}
+
+/// Reading gives the LFBselects of a Config exactly where the bytes are a text of them, and no bytes are a text of two
+/// lists of them.
+pub fn text_is_its_selects()
+    ensures same { (ss : List Select) (bytes : List ℕ) → (body_in bytes ≡ Ok ss) ↔ SpellsSelects ss bytes }
+    ensures one { (ss rs : List Select) (bytes : List ℕ) → SpellsSelects ss bytes → SpellsSelects rs bytes → ss ≡ rs }
+{}
+
+/// What is printed of messages is a text of them, and no others have a text than those of which that is said.
 pub fn shown_text_is_spelled()
     ensures one { (m : Message) → HasText m → SpellsText (m ∷ []) (message_text m) }
     ensures all { (ms : List Message) → AllByRecursion HasText ms → SpellsText ms (flat_map message_text ms) }
@@ -18,16 +31,4 @@ pub fn shown_text_is_spelled()
 pub fn shown_text_is_read()
     ensures one { (m : Message) → HasText m → text_in (message_text m) ≡ Ok (m ∷ []) }
     ensures all { (ms : List Message) → AllByRecursion HasText ms → text_in (flat_map message_text ms) ≡ Ok ms }
-{}
-
-/// A text of messages is read as these messages, and is a text of no others.
-pub fn text_is_its_messages()
-    ensures read { (ms : List Message) (bytes : List ℕ) → SpellsText ms bytes → text_in bytes ≡ Ok ms }
-    ensures one { (ms ns : List Message) (bytes : List ℕ) → SpellsText ms bytes → SpellsText ns bytes → ms ≡ ns }
-{}
-
-/// A text of the LFBselects of a Config is read as these, and is a text of no others.
-pub fn text_is_its_selects()
-    ensures read { (selects : List Select) (bytes : List ℕ) → SpellsSelects selects bytes → body_in bytes ≡ Ok selects }
-    ensures one { (ss rs : List Select) (bytes : List ℕ) → SpellsSelects ss bytes → SpellsSelects rs bytes → ss ≡ rs }
 {}
