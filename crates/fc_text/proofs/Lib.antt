@@ -17,3 +17,4 @@ pub mod SoundValues
 pub mod SoundWords
 pub mod SoundPaths
 pub mod SoundMessages
+pub mod SpelledRanges

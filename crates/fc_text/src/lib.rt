@@ -20,7 +20,8 @@ mod words;
 
 pub use fault::TextFault;
 pub use laws::{
-    shown_text_is_read, shown_text_is_spelled, text_is_its_messages, text_is_its_selects,
+    decoded_text_is_read, shown_text_is_read, shown_text_is_spelled, text_is_its_messages,
+    text_is_its_selects,
 };
 pub use message::show;
 pub use read_body::read_body;
