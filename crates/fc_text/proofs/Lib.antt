@@ -13,6 +13,11 @@ pub mod ReadLines
 pub mod ReadMessages
 pub mod ReadPaths
 pub mod Shown
+pub mod SoundMessages
+pub mod SoundPaths
+pub mod SoundValues
+pub mod SoundWords
+pub mod SpelledRanges
 pub mod SpelledWords
 pub mod SplitLines
 pub mod TextLaws

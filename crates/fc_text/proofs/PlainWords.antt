@@ -1,7 +1,7 @@
 -- The words of a line have no space and no line feed, and so a line of them is one.
-use Rattle.std.proofs.Common.{◌≡◌, ◌<◌, ◌≤◌, ◌+◌, ◌*◌, ◌^◌, ℕ, zero, suc, Bool, true, false, cond, ◌==◌, ◌&&◌, not, List, [], ◌∷◌, ◌++◌, length, map, codes, decimal, Option, Some, None, append-nil, refl, sym, ap, subst, ◌∙◌, arith, rules, length-append}
+use Rattle.std.proofs.Common.{◌≡◌, ◌<◌, ℕ, suc, true, List, [], ◌∷◌, length, codes, decimal, refl, sym, ap, subst, ◌∙◌, arith, length-append}
 use Rattle.std.specs.Char.{digit_value, is_ascii_hexdigit, to_ascii_uppercase}
-use Rattle.std.specs.List.{flat_map, list_all, AllByRecursion}
+use Rattle.std.specs.List.{list_all, AllByRecursion}
 use Rattle.std.specs.Str.{str_to_ascii_uppercase}
 use Rattle.std.specs.Str.Parse.{AllDigits}
 use Rattle.std.proofs.lemmas.Bool.{and_parts}
@@ -9,23 +9,10 @@ use Rattle.std.proofs.lemmas.Bool.Decides.{leb_tells}
 use Rattle.std.proofs.lemmas.Fmt.{decimal_is_IsNumeral}
 use Rattle.std.proofs.lemmas.List.{length-map}
 use Rattle.std.proofs.lemmas.List.Folds.{list_all-append}
-use Rattle.fc_base.specs.Hex.{hex, hex_digit}
-use Rattle.fc_wire.specs.declared.ilvs.Ilv.{Ilv}
-use Rattle.fc_path.specs.declared.oper.OperKind.{OperKind}
-use Rattle.fc_path.specs.declared.oper.OperKind.TheVariants as kinds
-use Rattle.fc_path.specs.declared.oper.Oper.{Oper}
-use Rattle.fc_path.specs.declared.oper.Oper.TheVariants as oper
-use Rattle.fc_path.specs.declared.oper.Select.{Select}
-use Rattle.fc_path.specs.declared.path.Key.{Key}
-use Rattle.fc_path.specs.declared.path.PathData.{PathData}
-use Rattle.fc_path.specs.declared.path.Body.{Body, the_lemmas}
-use Rattle.fc_path.specs.declared.path.Body.TheVariants as v
-use Rattle.fc_msg.specs.declared.message.Message.{Message}
-use Rattle.fc_msg.specs.declared.message.MsgBody.{MsgBody}
-use Rattle.fc_msg.specs.declared.message.MsgBody.TheVariants.{Setup, SetupResponse, Teardown, Config, ConfigResponse, Query, QueryResponse, Event, Heartbeat}
-use Rattle.fc_text.specs.Text.{body_name, kind_name, bytes_text, hex_text}
-use Rattle.fc_text.specs.TextGrammar.{Word, Line, line, name, number, digits, octets, flags, key_words, step_words, SpellsDigits, SpellsWord, SpellsLine, AreEach}
-use Rattle.fc_text.proofs.SpelledWords.{are_hexadecimal, hex_digits, length-hex, either_case_digits}
+use Rattle.fc_base.specs.Hex.{hex}
+use Rattle.fc_text.specs.Text.{bytes_text, hex_text}
+use Rattle.fc_text.specs.TextGrammar.{Word, Line, name, number, digits, octets, flags, SpellsDigits, SpellsWord, SpellsLine, AreEach}
+use Rattle.fc_text.proofs.SpelledWords.{are_hexadecimal, hex_digits, length-hex}
 use Rattle.fc_text.proofs.SplitLines.{is_plain, IsWord, IsLine, line_is}
 
 -- characters

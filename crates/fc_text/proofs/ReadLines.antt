@@ -1,15 +1,15 @@
 -- Lines that are spelled are read, word for word.
-use Rattle.std.proofs.Common.{◌≡◌, ◌<◌, ◌≤◌, ◌+◌, ◌*◌, ◌^◌, ℕ, zero, suc, Bool, true, false, cond, ◌==◌, ◌&&◌, not, List, [], ◌∷◌, ◌++◌, length, drop, map, codes, decimal, Option, Some, None, Result, Ok, Err, append-nil, append_assoc, refl, sym, ap, subst, ◌∙◌, arith, length-append, eq-eqb}
-use Rattle.std.specs.List.{flat_map, AllByRecursion}
+use Rattle.std.proofs.Common.{◌≡◌, ◌<◌, ◌+◌, ◌*◌, ◌^◌, ℕ, Bool, true, false, cond, ◌==◌, List, [], ◌∷◌, ◌++◌, length, codes, decimal, Option, Some, None, Result, Ok, refl, sym, ap, subst, ◌∙◌, arith, eq-eqb}
+use Rattle.std.specs.List.{AllByRecursion}
 use Rattle.std.specs.Str.{bytes_eq}
 use Rattle.std.specs.Str.Parse.{AllDigits}
 use Rattle.std.proofs.lemmas.Fmt.{decimal_is_IsNumeral}
 use Rattle.std.proofs.lemmas.Slice.Eq.{bytes_eq-Decides}
 use Rattle.fc_wire.specs.declared.ilvs.Ilv.{Ilv}
 use Rattle.fc_path.specs.declared.path.Key.{Key}
-use Rattle.fc_text.specs.LineWords.{WordsLeft, LinesLeft, words_of, words_left, lines_left, placed, stands_at, spaces_before, line_at, word_in, meaning, fits_as, ended, exactly, this_word, decimal_in, digits_in, octets_in, labelled_in, labelled_digits}
+use Rattle.fc_text.specs.LineWords.{WordsLeft, LinesLeft, words_left, lines_left, placed, spaces_before, line_at, word_in, meaning, fits_as, ended, exactly, this_word, decimal_in, digits_in, octets_in, labelled_in, labelled_digits}
 use Rattle.fc_text.specs.Text.{indent}
-use Rattle.fc_text.specs.TextGrammar.{Word, Line, line, name, number, digits, octets, flags, parted, key_words, step_words, ilv_line, code_line, SpellsDigits, SpellsWord, SpellsLine, AreEach}
+use Rattle.fc_text.specs.TextGrammar.{Word, Line, line, name, number, digits, octets, parted, step_words, ilv_line, code_line, SpellsDigits, SpellsWord, SpellsLine, AreEach}
 use Rattle.fc_text.specs.TextPlaces.{TextPlace, place, ◌>>=◌}
 use Rattle.fc_text.specs.TextReading.{key_in, steps_of, steps_in, ilv_at, code_in, outcome_at}
 use Rattle.fc_text.specs.WordValues.{decimal_of, digits_of, octets_of}

@@ -1,10 +1,9 @@
 -- Messages whose lines are spelled are read.
-use Rattle.std.proofs.Common.{◌≡◌, ◌<◌, ◌≤◌, ◌+◌, ◌*◌, ◌^◌, ℕ, zero, suc, Bool, true, false, cond, ◌==◌, ◌&&◌, not, List, [], ◌∷◌, ◌++◌, length, map, codes, Option, Some, None, Result, Ok, Err, append-nil, append_assoc, refl, sym, ap, subst, ◌∙◌, arith, rules, length-append, eq-eqb}
+use Rattle.std.proofs.Common.{◌≡◌, ◌<◌, ◌+◌, ◌*◌, ℕ, suc, true, ◌==◌, List, [], ◌∷◌, ◌++◌, length, codes, Some, Ok, append-nil, refl, sym, ap, subst, ◌∙◌, arith, eq-eqb}
 use Rattle.std.specs.List.{flat_map, list_all, AllByRecursion}
-use Rattle.std.specs.Str.{bytes_eq}
 use Rattle.fc_wire.specs.Flags.{FlagValues}
 use Rattle.fc_path.specs.Kinds.{operation_of, number_of}
-use Rattle.fc_path.specs.Proper.{ProperPath, ProperOper, ProperSelect}
+use Rattle.fc_path.specs.Proper.{ProperOper, ProperSelect}
 use Rattle.fc_path.specs.declared.kinds.Operation.{Operation}
 use Rattle.fc_path.specs.declared.kinds.Operation.TheVariants as operation
 use Rattle.fc_path.specs.declared.oper.OperKind.{OperKind}
@@ -12,25 +11,22 @@ use Rattle.fc_path.specs.declared.oper.OperKind.TheVariants as kinds
 use Rattle.fc_path.specs.declared.oper.Oper.{Oper}
 use Rattle.fc_path.specs.declared.oper.Oper.TheVariants as oper
 use Rattle.fc_path.specs.declared.oper.Select.{Select}
-use Rattle.fc_path.specs.declared.path.PathData.{PathData}
-use Rattle.fc_msg.specs.Bodies.{holding}
 use Rattle.fc_msg.specs.Messages.{IsProper, ProperMsgBody, ProperSelects, kind_of, message_fits}
 use Rattle.fc_msg.specs.Reading.{flags_in}
 use Rattle.fc_msg.specs.declared.message.Message.{Message}
 use Rattle.fc_msg.specs.declared.message.MsgBody.{MsgBody}
 use Rattle.fc_msg.specs.declared.message.MsgBody.TheVariants.{Setup, SetupResponse, Teardown, Config, ConfigResponse, Query, QueryResponse, Event, Heartbeat}
-use Rattle.fc_text.specs.LineWords.{WordsLeft, LinesLeft, words_left, lines_left, lines_of, placed, stands_at, spaces_before, line_at, text_lines, closed, word_in, ended, exactly, meaning, labelled_in, labelled_digits}
+use Rattle.fc_text.specs.LineWords.{lines_left, lines_of, spaces_before, text_lines, closed}
 use Rattle.fc_text.specs.Text.{body_name, kind_name}
-use Rattle.fc_text.specs.TextGrammar.{Word, Line, line, name, number, digits, octets, flags, name_line, code_line, path_lines, oper_lines, select_lines, head_line, number_line, content_lines, message_lines, SpellsDigits, SpellsWord, SpellsLine, SpellsLines, SpellsText, SpellsSelects, AreEach, AreLines}
-use Rattle.fc_text.specs.TextPlaces.{TextPlace, place, ◌>>=◌}
-use Rattle.fc_text.specs.TextReading.{Reader, and_more, many_at, some_at, outcome_at, places_at, operation_at, number_named, operation_named, oper_at, select_at, number_at, content_at, message_named, HeadWords, head_at, shut, message_of, whole_at, message_at, text_in, body_in}
+use Rattle.fc_text.specs.TextGrammar.{Word, Line, line, name, number, digits, flags, name_line, code_line, path_lines, oper_lines, select_lines, head_line, number_line, content_lines, message_lines, SpellsWord, SpellsLine, AreEach}
+use Rattle.fc_text.specs.declared.reading.Head.{Head}
+use Rattle.fc_text.specs.TextReading.{many_at, some_at, operation_at, number_named, operation_named, operation_in, oper_at, select_at, number_at, content_at, message_named, type_in, head_at, shut, message_of, whole_at, message_at, text_in}
 use Rattle.fc_text.specs.WordValues.{given}
-use Rattle.fc_text.proofs.PlainWords.{Named, Whole, lines_are}
-use Rattle.fc_text.proofs.SpelledWords.{labelled_read}
-use Rattle.fc_text.proofs.ReadLines.{Gives, Took, Began, begin, took, took_name, took_number, took_digits, took_labelled, none_left, outcome_read, alone}
-use Rattle.fc_text.proofs.ReadItems.{Before, Begins, not_there, before_more, stands, many_reads, some_reads, follows}
+use Rattle.fc_text.proofs.PlainWords.{Whole}
+use Rattle.fc_text.proofs.ReadLines.{Gives, begin, took, took_name, took_number, took_digits, took_labelled, none_left, outcome_read, alone}
+use Rattle.fc_text.proofs.ReadItems.{Before, Begins, before_more, many_reads, some_reads}
 use Rattle.fc_text.proofs.ReadPaths.{places_read}
-use Rattle.fc_text.proofs.SplitLines.{IsWord, IsLine, is_plain, lines_back}
+use Rattle.fc_text.proofs.SplitLines.{IsWord, is_plain}
 
 -- names
 word_by : (text : List ℕ) → 0 < length text → list_all is_plain text ≡ true → IsWord text
@@ -163,7 +159,7 @@ under_read message level (oper.CommitResponse code) (t ∷ s ∷ ts) rest taken 
 
 oper_by : (message level : ℕ) (o : Oper) (texts rest : List (List ℕ)) (taken : ℕ) → ProperOper message o → AreEach SpellsLine (name_line level (name_for o) ∷ under level o) texts → Before (suc level) rest
     → Gives (oper_at message level (lines_left taken (texts ++ rest))) o rest
-unfolding oper_at
+unfolding oper_at operation_in
 oper_by message level o [] rest taken p h b = absurd h
 oper_by message level o (t ∷ ts) rest taken p h b =
     let l = begin (name_line level (name_for o)) taken t (ts ++ rest) (name_whole level o) h.0 in
@@ -239,7 +235,7 @@ head_whole m = record {
   named = (body_word m.body, ((refl, omega arith), ((refl, omega arith), ((refl, omega arith), (tt, tt)))));
 }
 
-abbrev head_words : Message → ℕ → HeadWords
+abbrev head_words : Message → ℕ → Head
 head_words m word = record { kind = kind_of m.body; source = m.source; dest = m.dest; corr = m.corr; flags = word }
 
 flags_back : (values : FlagValues) (ws : List Word) (texts : List (List ℕ)) → AreEach SpellsWord (flags values ∷ ws) texts → (n : ℕ) × (values ≡ flags_in n) × AreEach SpellsWord (digits (codes "flags=") 8 n ∷ ws) texts
@@ -247,7 +243,7 @@ flags_back values ws [] h = absurd h
 flags_back values ws (t ∷ ts) h = (h.0.0, h.0.1, (h.0.2, h.1))
 
 head_read : (m : Message) (t : List ℕ) (rest : List (List ℕ)) (taken : ℕ) → SpellsLine (head_line m) t → (word : ℕ) × (m.flags ≡ flags_in word) × Gives (head_at (lines_left taken (t ∷ rest))) (head_words m word) rest
-unfolding head_at
+unfolding head_at type_in
 head_read m t rest taken h =
     let l = begin (head_line m) taken t rest (head_whole m) h in
     let kind = took message_named (name (body_name m.body)) (kind_of m.body) (λ t e. ap message_named e ∙ body_number m.body) l.taken l.end l.column
@@ -258,7 +254,7 @@ head_read m t rest taken h =
     let back = flags_back m.flags [] corr.rest corr.each in
     let word = took_labelled (codes "flags=") 8 back.0 l.taken l.end corr.column [] corr.rest back.2 in
     let z = none_left l.taken l.end word.column word.rest word.each in
-    (back.0, back.1, (l.taken, rw (l.is, kind.is, source.is, dest.is, corr.is, word.is, z) refl))
+    (back.0, back.1, (l.taken, rw (l.is, kind.is, source.is, dest.is, corr.is, word.is, z) (refl {a = Ok (head_words m back.0, lines_left l.taken rest)})))
 
 -- a message
 shut_read : (taken : ℕ) (rest : List (List ℕ)) → Before 1 rest → shut (lines_left taken rest) ≡ Ok tt
@@ -300,7 +296,7 @@ all_read ms texts p h =
     let r = many_reads message_lines IsTaken message_at 0 message_begins message_reads ms 0 texts [] p h tt in
     (r.0, ap (λ l. many_at 0 message_at (lines_left 0 l)) (sym (append-nil texts)) ∙ r.1)
 
--- the first line of a text that has one
+-- a text, by its lines
 pub text_by : (ms : List Message) (texts : List (List ℕ)) (bytes : List ℕ) → AllByRecursion IsTaken ms → AreEach SpellsLine (flat_map message_lines ms) texts → lines_of bytes ≡ texts → text_in bytes ≡ Ok ms
 unfolding text_in closed
 text_by ms texts bytes p h e =

@@ -1,5 +1,5 @@
 -- PATH-DATA whose lines are spelled are read.
-use Rattle.std.proofs.Common.{◌≡◌, ◌<◌, ◌≤◌, ◌+◌, ◌*◌, ◌^◌, ℕ, zero, suc, Bool, true, false, cond, ◌==◌, ◌&&◌, not, List, [], ◌∷◌, ◌++◌, length, map, codes, Option, Some, None, Result, Ok, Err, append-nil, append_assoc, refl, sym, ap, subst, ◌∙◌, arith, rules, length-append}
+use Rattle.std.proofs.Common.{◌≡◌, ◌<◌, ◌+◌, ℕ, zero, suc, Bool, true, false, cond, ◌&&◌, List, [], ◌∷◌, ◌++◌, length, map, codes, Option, Some, None, Result, Ok, append_assoc, refl, sym, ap, subst, ◌∙◌, arith, rules}
 use Rattle.std.specs.List.{flat_map, AllByRecursion}
 use Rattle.std.specs.Str.{bytes_eq}
 use Rattle.fc_wire.specs.declared.ilvs.Ilv.{Ilv}
@@ -8,17 +8,17 @@ use Rattle.fc_path.specs.Proper.{ProperBody, ProperPath}
 use Rattle.fc_path.specs.declared.oper.OperKind.{OperKind}
 use Rattle.fc_path.specs.declared.oper.OperKind.TheVariants as kinds
 use Rattle.fc_path.specs.declared.path.Key.{Key}
-use Rattle.fc_path.specs.declared.path.PathData.{PathData, roll-PathData}
+use Rattle.fc_path.specs.declared.path.PathData.{PathData}
 use Rattle.fc_path.specs.declared.path.Body.{Body, out-Body, roll-Body, the_lemmas}
 use Rattle.fc_path.specs.declared.path.Body.TheOpen.{Body-F}
 use Rattle.fc_path.specs.declared.path.Body.TheVariants as v
 use Rattle.fc_path.specs.declared.path.Body.TheViews.{roll-out-Body}
-use Rattle.fc_text.specs.LineWords.{WordsLeft, LinesLeft, WordItem, words_left, lines_left, placed, stands_at, line_at, word_in, ended, exactly}
-use Rattle.fc_text.specs.TextGrammar.{Word, Line, LinesAt, line, name, number, digits, octets, flags, key_words, step_words, ilv_line, code_line, body_step, path_step, body_lines, path_lines, SpellsWord, SpellsLine, AreEach}
-use Rattle.fc_text.specs.TextPlaces.{TextPlace, place, ◌>>=◌}
-use Rattle.fc_text.specs.TextReading.{Reader, and_more, many_at, ilv_at, steps_in, code_in, leaf_in, path_by, path_line, paths_by, last_body, body_by, body_at, places_at}
+use Rattle.fc_text.specs.LineWords.{WordsLeft, LinesLeft, WordItem, words_left, lines_left, placed, line_at, word_in}
+use Rattle.fc_text.specs.TextGrammar.{Word, Line, LinesAt, line, name, digits, octets, step_words, ilv_line, code_line, body_step, path_step, body_lines, path_lines, SpellsWord, SpellsLine, AreEach}
+use Rattle.fc_text.specs.TextPlaces.{TextPlace}
+use Rattle.fc_text.specs.TextReading.{Reader, ilv_at, leaf_in, path_by, path_line, paths_by, last_body, body_by, body_at, places_at}
 use Rattle.fc_text.proofs.PlainWords.{Named, Whole}
-use Rattle.fc_text.proofs.ReadLines.{Gives, Took, Began, begin, took_name, took_octets, none_left, steps_read, code_read, ilv_read, alone, ilv_whole, code_whole}
+use Rattle.fc_text.proofs.ReadLines.{Gives, begin, took_name, took_octets, none_left, steps_read, code_read, ilv_read, alone, ilv_whole}
 use Rattle.fc_text.proofs.ReadItems.{Before, Begins, not_there, before_more, each_split, stands, many_reads, follows}
 use Rattle.fc_text.proofs.SplitLines.{IsWord}
 
@@ -52,7 +52,7 @@ at_all : (ps : List PathData) (level : ℕ) → flat_map (λ (at : LinesAt). at 
 at_all [] level = refl
 at_all (p ∷ ps) level = ap (λ l. path_lines p level ++ l) (at_all ps level)
 
-layer_is : (l : Body-F Body PathData) (level : ℕ) → body_lines (roll-Body l) level ≡ layer_lines l level
+pub layer_is : (l : Body-F Body PathData) (level : ℕ) → body_lines (roll-Body l) level ≡ layer_lines l level
 layer_is Body-F.Nothing level = ap (λ (at : LinesAt). at level) (ap body_lines v.rolls-Nothing ∙ nothing_is)
 layer_is (Body-F.Full value) level = ap (λ (at : LinesAt). at level) (ap body_lines (v.rolls-Full value) ∙ full_is value)
 layer_is (Body-F.Sparse ilvs) level = ap (λ (at : LinesAt). at level) (ap body_lines (v.rolls-Sparse ilvs) ∙ sparse_is ilvs)
@@ -197,7 +197,7 @@ ilv_reads level ilv [] rest taken u h b = absurd h
 ilv_reads level ilv (t ∷ []) rest taken u h b = ilv_read level ilv t rest taken h.0
 ilv_reads level ilv (t ∷ s ∷ ts) rest taken u h b = absurd h.1
 
-one_each : (level : ℕ) (ilvs : List Ilv) → map (ilv_line level) ilvs ≡ flat_map (λ ilv. ilv_line level ilv ∷ []) ilvs
+pub one_each : (level : ℕ) (ilvs : List Ilv) → map (ilv_line level) ilvs ≡ flat_map (λ ilv. ilv_line level ilv ∷ []) ilvs
 one_each level [] = refl
 one_each level (x ∷ xs) = ap (λ l. ilv_line level x ∷ l) (one_each level xs)
 

@@ -1,6 +1,6 @@
 -- The text that is printed of messages spells them.
-use Rattle.std.proofs.Common.{◌≡◌, ◌<◌, ◌≤◌, ◌+◌, ◌*◌, ◌/◌, ◌%◌, ◌^◌, ◌==◌, ℕ, zero, suc, Bool, true, false, cond, if◌then◌else◌, List, [], ◌∷◌, ◌++◌, length, map, codes, decimal, Option, Some, None, append-nil, append_assoc, eq-eqb, refl, sym, ap, subst, ◌∙◌, arith, rules, inl}
-use Rattle.std.specs.Char.{is_ascii_hexdigit, to_ascii_uppercase}
+use Rattle.std.proofs.Common.{◌≡◌, ◌<◌, ◌≤◌, ◌+◌, ◌*◌, ◌/◌, ◌%◌, ◌^◌, ◌==◌, ℕ, zero, suc, Bool, true, false, if◌then◌else◌, List, [], ◌∷◌, ◌++◌, map, codes, decimal, Option, Some, None, append-nil, append_assoc, eq-eqb, refl, sym, ap, ◌∙◌, arith, rules, inl}
+use Rattle.std.specs.Char.{to_ascii_uppercase}
 use Rattle.std.specs.List.{flat_map, AllByRecursion}
 use Rattle.std.specs.Str.{str_to_ascii_uppercase}
 use Rattle.std.proofs.lemmas.Bool.{ne_eqb}
@@ -22,13 +22,13 @@ use Rattle.fc_path.specs.declared.path.Body.{Body, out-Body, roll-Body, the_lemm
 use Rattle.fc_path.specs.declared.path.Body.TheOpen.{Body-F}
 use Rattle.fc_path.specs.declared.path.Body.TheVariants as v
 use Rattle.fc_path.specs.declared.path.Body.TheViews.{roll-out-Body}
-use Rattle.fc_msg.specs.Messages.{IsProper, ProperMsgBody, message_fits}
+use Rattle.fc_msg.specs.Messages.{IsProper, ProperMsgBody}
 use Rattle.fc_msg.specs.Reading.{flags_in}
 use Rattle.fc_msg.specs.declared.message.Message.{Message}
 use Rattle.fc_msg.specs.declared.message.MsgBody.{MsgBody}
 use Rattle.fc_msg.specs.declared.message.MsgBody.TheVariants.{Setup, SetupResponse, Teardown, Config, ConfigResponse, Query, QueryResponse, Event, Heartbeat}
 use Rattle.fc_text.specs.Text.{AtLevel, body_at, path_line, path_text, body_text, id_text, key_text, full_text, ilv_text, sparse_text, code_text, oper_line, oper_text, select_line, select_text, selects_text, number_text, content_text, fields_text, head_text, message_text, bytes_text, hex_text, body_name, kind_name, indent}
-use Rattle.fc_text.specs.TextGrammar.{Word, Line, line, name, number, digits, octets, flags, key_words, step_words, ilv_line, code_line, name_line, number_line, head_line, path_lines, body_lines, oper_lines, select_lines, content_lines, message_lines, WordFits, LineFits, LinesFit, SpellsDigits, SpellsWord, SpellsLine, SpellsLines, SpellsText, AreEach, behind_space, parted, ended}
+use Rattle.fc_text.specs.TextGrammar.{Word, Line, line, name, number, digits, octets, flags, key_words, step_words, ilv_line, code_line, name_line, number_line, head_line, path_lines, body_lines, oper_lines, select_lines, content_lines, message_lines, WordFits, LineFits, LinesFit, SpellsDigits, SpellsWord, SpellsLine, SpellsLines, AreEach, behind_space, parted, ended}
 use Rattle.fc_text.proofs.Flattening.{nested_text}
 use Rattle.fc_text.proofs.ReadPaths.{layer_lines, body_is, path_lines_are, path_head}
 use Rattle.fc_text.proofs.SpelledWords.{hex_suc, hex_zero}

@@ -1,9 +1,9 @@
 -- What a word says is read from it.
-use Rattle.std.proofs.Common.{◌≡◌, ◌<◌, ◌≤◌, ◌+◌, ◌-◌, ◌*◌, ◌/◌, ◌%◌, ◌^◌, ℕ, zero, suc, Bool, true, false, cond, ◌==◌, ◌&&◌, not, nat_lt, if◌then◌else◌, List, [], ◌∷◌, ◌++◌, length, take, drop, get_or, codes, decimal, Option, Some, None, append-nil, append_assoc, refl, sym, ap, subst, ◌∙◌, arith, length-append}
+use Rattle.std.proofs.Common.{◌≡◌, ◌<◌, ◌≤◌, ◌+◌, ◌*◌, ◌/◌, ◌%◌, ◌^◌, ℕ, zero, suc, Bool, true, false, cond, ◌==◌, List, [], ◌∷◌, ◌++◌, length, take, drop, get_or, codes, decimal, Some, None, refl, sym, ap, subst, ◌∙◌, arith, length-append}
 use Rattle.std.specs.Char.{digit_value, is_ascii_hexdigit, to_ascii_uppercase}
 use Rattle.std.specs.List.{list_all}
 use Rattle.std.specs.Str.{bytes_eq, str_to_ascii_uppercase}
-use Rattle.std.specs.Str.Parse.{AllDigits, IsNumeral, digits_value, digits_value_after}
+use Rattle.std.specs.Str.Parse.{AllDigits, digits_value, digits_value_after}
 use Rattle.std.proofs.Math.Nat.{pow-suc}
 use Rattle.std.proofs.lemmas.Bool.{and_parts, ne_eqb, eq-eqb}
 use Rattle.std.proofs.lemmas.Bool.Decides.{leb_tells}
@@ -12,10 +12,9 @@ use Rattle.std.proofs.lemmas.Int.Digits.{digits_value_push}
 use Rattle.std.proofs.lemmas.List.{length-map, take_at, drop_at}
 use Rattle.std.proofs.lemmas.List.Folds.{list_all-append}
 use Rattle.std.proofs.lemmas.Slice.Eq.{bytes_eq-Decides}
-use Rattle.std.proofs.lemmas.Str.Parse.{digit_from_value}
 use Rattle.fc_base.specs.Hex.{hex, hex_digit}
 use Rattle.fc_wire.specs.Bytes.{AreBytes}
-use Rattle.fc_text.specs.LineWords.{this_word, behind_label, labelled_digits}
+use Rattle.fc_text.specs.LineWords.{labelled_digits}
 use Rattle.fc_text.specs.Text.{bytes_text, hex_text}
 use Rattle.fc_text.specs.TextGrammar.{SpellsDigits}
 use Rattle.fc_text.specs.WordValues.{given, digit_of, hexadecimal, digits_of, decimal_digit as digit_ten, below, decimals, decimal_of, pairs_of, octets_of}
@@ -25,10 +24,10 @@ pub same_bytes : (text : List ℕ) → bytes_eq text text ≡ true
 same_bytes text = (bytes_eq-Decides text text).1 refl
 
 -- one hexadecimal character
-digit_in_upper_case : (c : ℕ) → is_ascii_hexdigit c ≡ true → hex_digit (digit_value c) ≡ to_ascii_uppercase c
+pub digit_in_upper_case : (c : ℕ) → is_ascii_hexdigit c ≡ true → hex_digit (digit_value c) ≡ to_ascii_uppercase c
 digit_in_upper_case c h = grind (arith, leb_tells)
 
-digit_below : (c : ℕ) → is_ascii_hexdigit c ≡ true → digit_value c < 16
+pub digit_below : (c : ℕ) → is_ascii_hexdigit c ≡ true → digit_value c < 16
 digit_below c h = grind (arith, leb_tells)
 
 either_case_value : (c : ℕ) → digit_value (to_ascii_uppercase c) ≡ digit_value c
@@ -105,7 +104,7 @@ labelled_read label count n word (small, back, whole, e) =
 pair_read : (c d b : ℕ) (rest bs : List ℕ) → digits_of 2 (c ∷ d ∷ []) ≡ Some b → pairs_of rest ≡ Some bs → pairs_of (c ∷ d ∷ rest) ≡ Some (b ∷ bs)
 pair_read c d b rest bs h k = ap (λ o. given o (λ b. given (pairs_of rest) (λ bs. Some (b ∷ bs)))) h ∙ ap (λ o. given o (λ bs. Some (b ∷ bs))) k
 
-two_digits : (b : ℕ) → hex 2 b ≡ hex_digit (b / 16 % 16) ∷ hex_digit (b % 16) ∷ []
+pub two_digits : (b : ℕ) → hex 2 b ≡ hex_digit (b / 16 % 16) ∷ hex_digit (b % 16) ∷ []
 unfolding hex
 two_digits b = refl
 

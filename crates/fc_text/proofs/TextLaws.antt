@@ -1,5 +1,5 @@
 -- Laws of texts of messages.
-use Rattle.std.proofs.Common.{◌≡◌, ◌<◌, ◌+◌, ◌/◌, ◌%◌, ◌^◌, ℕ, true, List, [], ◌∷◌, ◌++◌, Ok, append-nil, refl, sym, ap, ◌∙◌, subst, arith}
+use Rattle.std.proofs.Common.{◌≡◌, ◌<◌, ◌^◌, ℕ, true, List, [], ◌∷◌, Ok, append-nil, sym, subst, arith}
 use Rattle.std.specs.List.{flat_map, AllByRecursion}
 use Rattle.fc_wire.specs.Flags.{FlagValues, FlagsFit}
 use Rattle.fc_msg.specs.Messages.{IsProper, message_fits}
@@ -38,7 +38,7 @@ pub one_read : (m : Message) → HasText m → text_in (message_text m) ≡ Ok (
 one_read m h = spelled_text_is_read (m ∷ []) (message_text m) (one_spelled m h)
 
 -- what is spelled is within its range
-flags_fit : (values : FlagValues) (n : ℕ) → n < 16 ^ 8 → values ≡ flags_in n → FlagsFit values
+pub flags_fit : (values : FlagValues) (n : ℕ) → n < 16 ^ 8 → values ≡ flags_in n → FlagsFit values
 flags_fit values n small e = subst FlagsFit (sym e) (omega arith, omega arith, omega arith, omega arith)
 
 word_fits : (w : Word) (bytes : List ℕ) → SpellsWord w bytes → WordFits w

@@ -1,5 +1,5 @@
 -- Each line of a message has some words, and none of them has a space or a line feed in it.
-use Rattle.std.proofs.Common.{◌≡◌, ◌<◌, ◌+◌, ℕ, zero, suc, List, [], ◌∷◌, ◌++◌, length, map, codes, refl, sym, ap, subst, ◌∙◌, arith}
+use Rattle.std.proofs.Common.{◌+◌, ℕ, zero, suc, List, [], ◌∷◌, ◌++◌, map, codes, refl, sym, subst, arith}
 use Rattle.std.specs.List.{flat_map, AllByRecursion}
 use Rattle.fc_wire.specs.declared.ilvs.Ilv.{Ilv}
 use Rattle.fc_path.specs.Proper.{ProperBody, ProperPath, ProperOper, ProperSelect}
@@ -14,7 +14,7 @@ use Rattle.fc_msg.specs.Messages.{IsProper, ProperMsgBody}
 use Rattle.fc_msg.specs.declared.message.Message.{Message}
 use Rattle.fc_msg.specs.declared.message.MsgBody.{MsgBody}
 use Rattle.fc_msg.specs.declared.message.MsgBody.TheVariants.{Setup, SetupResponse, Teardown, Config, ConfigResponse, Query, QueryResponse, Event, Heartbeat}
-use Rattle.fc_text.specs.TextGrammar.{Line, line, name, number, digits, octets, ilv_line, number_line, path_lines, body_lines, oper_lines, select_lines, content_lines, message_lines}
+use Rattle.fc_text.specs.TextGrammar.{Line, number, octets, ilv_line, path_lines, oper_lines, select_lines, content_lines, message_lines}
 use Rattle.fc_text.proofs.PlainWords.{Whole}
 use Rattle.fc_text.proofs.ReadLines.{alone, ilv_whole, code_whole}
 use Rattle.fc_text.proofs.ReadPaths.{layer_lines, body_is, path_lines_are, head_whole as path_whole}

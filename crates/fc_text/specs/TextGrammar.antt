@@ -1,7 +1,7 @@
 -- The grammar of a text, apart from how it is read: a message has lines, a line has a level and words, and a text spells
 -- the lines one after the other. Hexadecimal digits stand in either case, and the other bits of flags are free. This
 -- profile's own.
-use Rattle.std.specs.Prelude.{◌≡◌, ◌<◌, ◌⊎◌, ℕ, zero, suc, ◌+◌, ◌^◌, List, [], ◌∷◌, ◌++◌, map, length, codes, decimal, Option, Some, None, true}
+use Rattle.std.specs.Prelude.{◌≡◌, ◌<◌, ◌⊎◌, ℕ, ◌+◌, ◌^◌, List, [], ◌∷◌, ◌++◌, map, length, codes, decimal, Option, Some, None, true}
 use Rattle.std.specs.List.{flat_map, AllByRecursion}
 use Rattle.std.specs.Str.{str_to_ascii_uppercase}
 use Rattle.fc_base.specs.Hex.{hex}

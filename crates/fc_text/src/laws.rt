@@ -1,13 +1,28 @@
 // Laws of texts.
-ghost use Rattle.std.specs.Prelude.{◌≡◌, ◌∷◌, [], ℕ, List, Ok};
+ghost use Rattle.std.specs.Prelude.{◌≡◌, ◌↔◌, ◌∷◌, [], ℕ, List, Ok, true};
 ghost use Rattle.std.specs.List.{flat_map, AllByRecursion};
+ghost use Rattle.fc_wire.specs.Bytes.{AreBytes};
 ghost use Rattle.fc_path.specs.declared.oper.Select.{Select};
+ghost use Rattle.fc_msg.specs.Messages.{IsProper, Spells, message_fits};
 ghost use Rattle.fc_msg.specs.declared.message.Message.{Message};
 ghost use Rattle.fc_text.specs.Text.{message_text};
 ghost use Rattle.fc_text.specs.TextGrammar.{HasText, SpellsSelects, SpellsText};
 ghost use Rattle.fc_text.specs.TextReading.{body_in, text_in};
 
-/// What is printed of messages is a text of them, for exactly the messages that have a text.
+/// Reading gives messages exactly where the bytes are a text of them, and no bytes are a text of two lists of messages.
+pub fn text_is_its_messages()
+    ensures same { (ms : List Message) (bytes : List ℕ) → (text_in bytes ≡ Ok ms) ↔ SpellsText ms bytes }
+    ensures one { (ms ns : List Message) (bytes : List ℕ) → SpellsText ms bytes → SpellsText ns bytes → ms ≡ ns }
+{}
+
+/// Reading gives the LFBselects of a Config exactly where the bytes are a text of them, and no bytes are a text of two
+/// lists of them.
+pub fn text_is_its_selects()
+    ensures same { (ss : List Select) (bytes : List ℕ) → (body_in bytes ≡ Ok ss) ↔ SpellsSelects ss bytes }
+    ensures one { (ss rs : List Select) (bytes : List ℕ) → SpellsSelects ss bytes → SpellsSelects rs bytes → ss ≡ rs }
+{}
+
+/// What is printed of messages is a text of them, and no others have a text than those of which that is said.
 pub fn shown_text_is_spelled()
     ensures one { (m : Message) → HasText m → SpellsText (m ∷ []) (message_text m) }
     ensures all { (ms : List Message) → AllByRecursion HasText ms → SpellsText ms (flat_map message_text ms) }
@@ -20,14 +35,9 @@ pub fn shown_text_is_read()
     ensures all { (ms : List Message) → AllByRecursion HasText ms → text_in (flat_map message_text ms) ≡ Ok ms }
 {}
 
-/// A text of messages is read as these messages, and is a text of no others.
-pub fn text_is_its_messages()
-    ensures read { (ms : List Message) (bytes : List ℕ) → SpellsText ms bytes → text_in bytes ≡ Ok ms }
-    ensures one { (ms ns : List Message) (bytes : List ℕ) → SpellsText ms bytes → SpellsText ns bytes → ms ≡ ns }
-{}
-
-/// A text of the LFBselects of a Config is read as these, and is a text of no others.
-pub fn text_is_its_selects()
-    ensures read { (selects : List Select) (bytes : List ℕ) → SpellsSelects selects bytes → body_in bytes ≡ Ok selects }
-    ensures one { (ss rs : List Select) (bytes : List ℕ) → SpellsSelects ss bytes → SpellsSelects rs bytes → ss ≡ rs }
+/// A proper message that bytes spell has a text wherever it can be encoded; so what is decoded and printed is read as
+/// itself.
+pub fn decoded_text_is_read()
+    ensures text { (m : Message) (bytes : List ℕ) → AreBytes bytes → Spells m bytes → IsProper m → message_fits m ≡ true → HasText m }
+    ensures read { (m : Message) (bytes : List ℕ) → AreBytes bytes → Spells m bytes → IsProper m → message_fits m ≡ true → text_in (message_text m) ≡ Ok (m ∷ []) }
 {}

@@ -24,7 +24,8 @@ pub use body::read_body;
 pub use fault::TextFault;
 pub use frames::show_bytes;
 pub use laws::{
-    shown_text_is_read, shown_text_is_spelled, text_is_its_messages, text_is_its_selects,
+    decoded_text_is_read, shown_text_is_read, shown_text_is_spelled, text_is_its_messages,
+    text_is_its_selects,
 };
 pub use message::show;
 pub use reading::read_text;
