@@ -68,7 +68,9 @@ fn each_kind_of_line_is_shown(rt: HostRuntime) -> Result<(), Fail> {
         show(&message, &mut text).ok().ok_or("memory")?;
         assert_eq!(rt; text.as_slice(), wanted.as_bytes(), "{digits}");
         let mut appended = Vec::new(alloc);
-        show_bytes(alloc, bytes.as_slice(), &mut appended).ok().ok_or("a text")?;
+        show_bytes(alloc, bytes.as_slice(), &mut appended)
+            .ok()
+            .ok_or("a text")?;
         assert_eq!(rt; appended.as_slice(), wanted.as_bytes(), "{digits}");
     }
     Ok(())
