@@ -1,11 +1,11 @@
 -- Reading, one step at a time.
-use Rattle.std.proofs.Common.{◌≡◌, ◌≢◌, ℕ, suc, ◌+◌, ◌*◌, ◌/◌, ◌<◌, ◌≤◌, ◌^◌, ◌==◌, ◌||◌, List, [], ◌∷◌, ◌++◌, length, drop, Bool, true, false, nat_lt, cond, not, Option, Some, None, Result, Ok, Err, refl, sym, ap, ◌∙◌, arith, append_assoc, append-nil, subst, ne_eqb}
+use Rattle.std.proofs.Common.{◌≡◌, ◌≢◌, ℕ, suc, ◌+◌, ◌*◌, ◌/◌, ◌<◌, ◌≤◌, ◌^◌, ◌==◌, ◌||◌, List, [], ◌∷◌, ◌++◌, length, drop, ◌&&◌, Bool, true, false, nat_lt, cond, not, Option, Some, None, Result, Ok, Err, refl, sym, ap, ◌∙◌, arith, append_assoc, append-nil, subst, ne_eqb}
 use Rattle.std.specs.Bool.{beq}
 use Rattle.fc_wire.specs.Bytes.{u16_at}
 use Rattle.fc_wire.specs.Tiling.{Tiling, next_of, rest_of}
 use Rattle.fc_wire.specs.Tlvs.{TlvItem, tlvs}
 use Rattle.fc_wire.specs.declared.header.WireFault.{WireFault}
-use Rattle.fc_path.specs.Kinds.{is_known}
+use Rattle.fc_path.specs.Kinds.{is_known, takes_full}
 use Rattle.fc_path.specs.Stray.{◌>>=◌, Fails, beside, shut}
 use Rattle.fc_path.specs.Reading.{each_in, some_in, path_or, body_in, key_at, leaf_at, path_at, content_in, numbers, end_of}
 use Rattle.fc_path.specs.declared.fault.PathFault.{PathFault}
@@ -14,6 +14,7 @@ use Rattle.fc_path.specs.declared.oper.OperKind.{OperKind}
 use Rattle.fc_path.specs.declared.path.Key.{Key}
 use Rattle.fc_path.specs.declared.path.PathData.{PathData, roll-PathData}
 use Rattle.fc_path.specs.declared.path.Body.{Body}
+use Rattle.fc_path.specs.declared.path.Body.TheVariants.{Full}
 
 pub fails_bind : {A B : Type 0} (e : PathFault) (r : Result A PathFault) (f : A → Result B PathFault) → Fails e r → Fails e (r >>= f)
 fails_bind (faults.Wire x) r f h = ap (λ q. q >>= f) h
@@ -188,3 +189,23 @@ pub same_beq : (a b : Bool) → a ≡ true → not (beq a b) ≡ false → b ≡
 same_beq true true p q = refl
 same_beq true false p q = cc
 same_beq false b p q = cc
+
+-- a whole value and nothing else
+both_true : (a b : Bool) → a ≡ true → b ≡ true → (a && b) ≡ true
+both_true true b p q = q
+both_true false b p q = cc
+
+chosen : {A : Type 0} (b : Bool) (x y : A) → b ≡ true → cond b x y ≡ x
+chosen true x y e = refl
+chosen false x y e = cc
+
+pub value_content : (kind : OperKind) (one : TlvItem → Result PathData PathFault) (path end : ℕ) (items : List TlvItem) (fault : Option WireFault) (t : TlvItem) (rest : Tiling TlvItem)
+    → Some (Ok t) ≡ next_of items fault → rest ≡ rest_of items fault → t.kind ≡ 274 → takes_full kind ≡ true → shut beside rest.items rest.fault ≡ Ok tt
+    → content_in kind one path false end items fault ≡ Ok (None, Full t.body)
+value_content kind one path end items fault t rest n r k takes e =
+    let p = took items fault t rest n r in
+    let other : t.kind ≢ 272 = λ same. absurd (omega (arith, k, same)) in
+    let leaf : leaf_at kind t ≡ Ok (Full t.body) = chosen (t.kind == 274 && takes_full kind) _ _ (both_true (t.kind == 274) (takes_full kind) (ap (λ n. n == 274) k) takes) in
+    ap (λ l. content_in kind one path false end l fault) p.0 ∙ ap (λ l. content_in kind one path false end (t ∷ rest.items) l) p.1
+    ∙ skip (not (is_known t.kind)) _ _ (ap (λ n. not (is_known n)) k) ∙ skip (t.kind == 273) _ _ (ap (λ n. n == 273) k)
+    ∙ ap (λ q. q >>= λ b. Ok (None, b)) (body_shut kind one end (t ∷ rest.items) rest.fault t rest (Full t.body) refl refl other leaf e)

@@ -2,6 +2,7 @@ pub mod Canon
 pub mod Grammar
 pub mod Kinds
 pub mod Leaves
+pub mod Plain
 pub mod Proper
 pub mod Reading
 pub mod Results

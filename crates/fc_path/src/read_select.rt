@@ -1,17 +1,22 @@
 // Reading operations and selects, with the first fault in reading order.
-ghost use Rattle.std.specs.Prelude.{◌≡◌, ◌%◌, ◌+◌, ◌<◌, ◌≤◌, ◌^◌, ◌++◌, Ok, length, IfOk};
+ghost use Rattle.std.specs.Prelude.{◌≡◌, ◌%◌, ◌+◌, ◌<◌, ◌≤◌, ◌^◌, ◌++◌, ℕ, false, None, Ok, Result, length, IfOk, IfSome};
 ghost use Rattle.fc_path.specs.Stray.{Gives, misplaced as is_misplaced};
 ghost use Rattle.fc_wire.specs.Bytes.{AreBytes};
 ghost use Rattle.fc_path.specs.Grammar.{IsSelectOf};
 ghost use Rattle.fc_path.specs.declared.oper.Select.{Select as Selected};
-ghost use Rattle.fc_path.specs.Reading.{some_in, path_or, path_at, oper_at, operation_at, select_at};
+ghost use Rattle.fc_path.specs.Reading.{some_in, path_or, path_at, content_in, oper_at, operation_at, select_at};
+ghost use Rattle.fc_path.specs.Plain.{plain};
+ghost use Rattle.fc_path.specs.declared.fault.PathFault.{PathFault as Fault};
+ghost use Rattle.fc_path.specs.declared.path.PathData.{PathData as Path};
+ghost use Rattle.fc_path.specs.declared.path.Body.TheVariants.{Full};
+ghost use Rattle.fc_wire.specs.Tlvs.{TlvItem};
 
 use crate::kinds::{Operation, holds_selects, operation_for};
 use crate::read_path::{read_only_outcome, read_path};
-use crate::stray::{PATH_DATA, SELECT, is_known_in_select, misplaced};
+use crate::stray::{FULL_DATA, PATH_DATA, SELECT, is_known_in_select, misplaced, no_more_bodies};
 use crate::{Oper, OperKind, PathData, PathFault, Select};
 use fc_base::List;
-use fc_wire::{Tlv, Tlvs, WireFault, read_u32};
+use fc_wire::{Tlv, Tlvs, WireFault, read_u16, read_u32};
 use std::alloc::Global;
 
 /// How deep PATH-DATA may nest.
@@ -154,6 +159,46 @@ impl PathData {
             return Err(misplaced(tlv));
         }
         read_path(alloc, kind, DEPTH, tlv)
+    }
+
+    /// The ID and the value of a PATH-DATA of an operation that has one ID, no key and a whole value, which takes no
+    /// memory. `None` tells nothing of the TLV.
+    pub fn read_plain<'a>(kind: OperKind, tlv: &Tlv<'a>) -> Option<(u32, &'a [u8])>
+        ensures { IfSome result (λ x. path_or is_misplaced (path_at kind 16) tlv.now ≡ Ok (plain x.0 x.1.now)) }
+    {
+        let padded = tlv.padded();
+        if tlv.kind != PATH_DATA || padded.len() < 8 {
+            return None;
+        }
+        if read_u16(padded, 2) != 1 || read_u16(padded, 0) >> 15 == 1 {
+            return None;
+        }
+        let (_, numbers) = padded.split_at(4);
+        let (_, inner) = padded.split_at(8);
+        let value = only_value(kind, Tlvs::over(inner, tlv.place + 12))?;
+        Some((read_u32(numbers, 0), value))
+    }
+}
+
+// The value that a PATH-DATA without key holds, where it holds a whole value and nothing else.
+#[inline(always)]
+fn only_value<'a>(kind: OperKind, mut tlvs: Tlvs<'a>) -> Option<&'a [u8]>
+    ensures { IfSome result (λ value. (one : TlvItem → Result Path Fault) (path end : ℕ) → content_in kind one path false end tlvs.entry.items tlvs.entry.fault ≡ Ok (None, Full value.now)) }
+{
+    if !kind.takes_full() {
+        return None;
+    }
+    match tlvs.next() {
+        Some(Ok(tlv)) => {
+            if tlv.kind != FULL_DATA {
+                return None;
+            }
+            match no_more_bodies(tlvs) {
+                Ok(()) => Some(tlv.body),
+                Err(_) => None,
+            }
+        }
+        _ => None,
     }
 }
 

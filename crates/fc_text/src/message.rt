@@ -261,9 +261,9 @@ fn push_body(into: &mut Vec<u8>, level: usize, body: &Body) -> Result<(), Memory
     }
 }
 
-// The line of a PATH-DATA.
+/// The line of a PATH-DATA.
 #[tactic(auto, unfolding(crate::specs::Text::path_line))]
-fn push_path_line(
+pub fn push_path_line(
     into: &mut Vec<u8>,
     level: usize,
     ids: &[u32],
@@ -303,8 +303,9 @@ fn push_key(into: &mut Vec<u8>, key: &Option<Key>) -> Result<(), Memory>
     }
 }
 
+/// The line of a whole value.
 #[tactic(auto, unfolding(crate::specs::Text::full_text))]
-fn push_full(into: &mut Vec<u8>, level: usize, value: &[u8]) -> Result<(), Memory>
+pub fn push_full(into: &mut Vec<u8>, level: usize, value: &[u8]) -> Result<(), Memory>
     ensures { OnOk result (into.new.items ≡ into.old.items ++ full_text level value.now) }
 {
     push_indent(into, level)?;

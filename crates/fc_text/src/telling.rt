@@ -1,14 +1,18 @@
 // Reads the operations of messages and appends the text of each part as soon as it is read.
-ghost use Rattle.std.specs.Prelude.{◌≡◌, ◌≤◌, ◌<◌, ◌+◌, ◌%◌, ◌^◌, length};
+ghost use Rattle.std.specs.Prelude.{◌≡◌, ◌≤◌, ◌<◌, ◌+◌, ◌%◌, ◌^◌, ◌++◌, length, OnOk};
 ghost use Rattle.std.specs.List.{flat_map};
+ghost use Rattle.fc_path.specs.Plain.{plain};
 ghost use Rattle.fc_path.specs.Stray.{misplaced as is_misplaced};
 ghost use Rattle.fc_path.specs.Reading.{each_in, some_in, path_or, path_at, oper_at, operation_at, select_at};
 ghost use Rattle.fc_path.specs.declared.kinds.Operation.TheVariants.{Paths};
 ghost use Rattle.fc_text.specs.Text.{oper_text, path_text, select_text, selects_text};
 ghost use Rattle.fc_text.specs.Appending.{Tells};
 
-use crate::message::{push_line, push_path, push_response, push_select_line};
+use crate::message::{
+    push_full, push_line, push_path, push_path_line, push_response, push_select_line,
+};
 use crate::names::operation_name;
+use fc_base::Memory;
 use fc_path::{
     OperKind, Operation, PathData, PathFault, SELECT, are_bytes, holds_selects, is_known_in_select,
     misplaced, operation_for, read_only_outcome,
@@ -16,13 +20,41 @@ use fc_path::{
 use fc_wire::{Tlv, Tlvs, WireFault, read_u32};
 use std::alloc::Global;
 
-// The PATH-DATA of an operation.
-fn tell_path(alloc: Global, into: &mut Vec<u8>, kind: OperKind, tlv: &Tlv) -> Result<(), PathFault>
+// The PATH-DATA of an operation, by way of memory.
+fn tell_any_path(
+    alloc: Global,
+    into: &mut Vec<u8>,
+    kind: OperKind,
+    tlv: &Tlv,
+) -> Result<(), PathFault>
     ensures { Tells result (path_or is_misplaced (path_at kind 16) tlv.now) (λ path. path_text path 3) into.old.items into.new.items }
 {
     let path = PathData::read(alloc, kind, tlv)?;
     push_path(into, 3, &path)?;
     Ok(())
+}
+
+// The lines of a PATH-DATA with one ID, no key and a whole value.
+#[inline(always)]
+fn push_plain(into: &mut Vec<u8>, id: u32, value: &[u8]) -> Result<(), Memory>
+    ensures { OnOk result (into.new.items ≡ into.old.items ++ path_text (plain id value.now) 3) }
+{
+    push_path_line(into, 3, &[id], &None)?;
+    push_full(into, 4, value)?;
+    Ok(())
+}
+
+// The PATH-DATA of an operation.
+fn tell_path(alloc: Global, into: &mut Vec<u8>, kind: OperKind, tlv: &Tlv) -> Result<(), PathFault>
+    ensures { Tells result (path_or is_misplaced (path_at kind 16) tlv.now) (λ path. path_text path 3) into.old.items into.new.items }
+{
+    match PathData::read_plain(kind, tlv) {
+        Some((id, value)) => {
+            push_plain(into, id, value)?;
+            Ok(())
+        }
+        None => tell_any_path(alloc, into, kind, tlv),
+    }
 }
 
 // All PATH-DATA of an operation that are left.
