@@ -257,10 +257,15 @@ fn the_longest_message_is_taken_and_a_longer_one_refused(rt: HostRuntime) -> Res
     Ok(())
 }
 
-// A heartbeat and a query, one after the other.
-fn stream(alloc: Global) -> Result<Vec<u8>, AllocError> {
-    let mut bytes = bytes_of(alloc, SAMPLES[0])?;
-    push_digits(&mut bytes, SAMPLES[4])?;
+const BEAT: [u8; 24] = [
+    0x10, 0x0f, 0, 6, 0x40, 0, 0, 1, 0, 0, 0, 2, 0, 0, 0, 0, 0, 0, 0, 0, 0, 0, 0, 0,
+];
+
+// Two heartbeats, one after the other.
+fn beats(alloc: Global) -> Result<Vec<u8>, Fail> {
+    let mut bytes = Vec::new(alloc);
+    bytes.extend_from_slice(&BEAT)?;
+    bytes.extend_from_slice(&BEAT)?;
     Ok(bytes)
 }
 
@@ -269,16 +274,16 @@ fn a_splitter_lends_the_frames_of_the_stream(rt: HostRuntime) -> Result<(), Fail
     let alloc = rt.alloc();
     let mut splitter = Splitter::new(alloc);
     assert!(rt; splitter.next().is_none());
-    let bytes = stream(alloc)?;
-    assert_eq!(rt; bytes.len(), 76);
+    let bytes = beats(alloc)?;
+    assert_eq!(rt; bytes.len(), 48);
     splitter.feed(&bytes[..23])?;
     assert!(rt; splitter.next().is_none());
     assert_eq!(rt; splitter.rest().len(), 23);
-    splitter.feed(&bytes[23..75])?;
-    assert_eq!(rt; splitter.next().ok_or("a frame")?, &bytes[..24]);
+    splitter.feed(&bytes[23..47])?;
+    assert_eq!(rt; splitter.next().ok_or("a frame")?, BEAT.as_slice());
     assert!(rt; splitter.next().is_none());
-    splitter.feed(&bytes[75..])?;
-    assert_eq!(rt; splitter.next().ok_or("a frame")?, &bytes[24..]);
+    splitter.feed(&bytes[47..])?;
+    assert_eq!(rt; splitter.next().ok_or("a frame")?, BEAT.as_slice());
     assert_eq!(rt; splitter.rest().len(), 0);
     Ok(())
 }
@@ -286,13 +291,12 @@ fn a_splitter_lends_the_frames_of_the_stream(rt: HostRuntime) -> Result<(), Fail
 #[test]
 fn a_splitter_reads_no_more_than_it_is_to_read(rt: HostRuntime) -> Result<(), Fail> {
     let alloc = rt.alloc();
-    let bytes = stream(alloc)?;
-    let mut input = SureSource::new(stream(alloc)?, 60);
+    let mut input = SureSource::new(beats(alloc)?, 40);
     let mut splitter = Splitter::new(alloc);
-    for (most, given, left) in [(50, 50, 50), (60, 26, 76), (60, 0, 76)] {
-        let count = splitter.feed_from(&mut input, most).ok().ok_or("bytes")?;
-        assert_eq!(rt; count, given);
-        assert_eq!(rt; splitter.rest(), &bytes[..left]);
-    }
+    let given = splitter.feed_from(&mut input, 30).ok().ok_or("bytes")?;
+    assert_eq!(rt; given, 30);
+    assert_eq!(rt; splitter.rest().len(), 30);
+    assert_eq!(rt; splitter.next().ok_or("a frame")?, BEAT.as_slice());
+    assert_eq!(rt; splitter.rest(), &BEAT[..6]);
     Ok(())
 }
