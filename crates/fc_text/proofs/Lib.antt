@@ -3,9 +3,11 @@ pub mod Completeness
 pub mod Cutting
 pub mod Decimals
 pub mod Flattening
+pub mod Given
 pub mod Indents
 pub mod LineSteps
 pub mod Loops
+pub mod MessageProper
 pub mod Octets
 pub mod PlainWords
 pub mod ReadItems
@@ -21,4 +23,5 @@ pub mod SpelledRanges
 pub mod SpelledWords
 pub mod SplitLines
 pub mod TextLaws
+pub mod TextProper
 pub mod WholeLines
