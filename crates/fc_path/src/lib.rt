@@ -16,6 +16,7 @@ mod tests;
 mod write;
 
 pub use fault::PathFault;
+pub use kinds::{Operation, operation_for};
 pub use laws::{
     faults_are_in_reading_order, reading_is_the_grammar, selects_are_unique,
     written_selects_are_read,

@@ -1,0 +1,41 @@
+// Why a text is refused.
+ghost use Rattle.std.specs.Prelude.{◌≡◌};
+ghost use Rattle.fc_text.specs.declared.fault.TextFault.TheVariants.{Memory as no_memory};
+
+use fc_base::Memory;
+use std::alloc::{AllocError, AllocFailed};
+
+/// Why a text is refused: the first line that does not fit, and in it the first word that does not; or want of memory.
+#[derive(Clone, Copy, Debug, PartialEq, Eq)]
+pub enum TextFault {
+    /// The line, from 1, and the column, from 1 and in bytes: that of the word, of the place behind the line's end where a
+    /// word is missing, or 1 where the indentation is wrong. Where the text ends too early, the line behind the last one
+    /// and column 1.
+    At { line: usize, column: usize },
+    /// There was no memory.
+    Memory,
+}
+
+impl From<AllocError> for TextFault {
+    ghost from_gives = { λ _ e. e ≡ no_memory };
+
+    fn from(_: AllocError) -> Self {
+        TextFault::Memory
+    }
+}
+
+impl<T: Drop> From<AllocFailed<T>> for TextFault {
+    ghost from_gives = { λ _ e. e ≡ no_memory };
+
+    fn from(_: AllocFailed<T>) -> Self {
+        TextFault::Memory
+    }
+}
+
+impl From<Memory> for TextFault {
+    ghost from_gives = { λ _ e. e ≡ no_memory };
+
+    fn from(_: Memory) -> Self {
+        TextFault::Memory
+    }
+}

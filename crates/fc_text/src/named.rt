@@ -1,0 +1,90 @@
+// What the names of messages and operations mean.
+use crate::words::is;
+use fc_path::{Operation, operation_for};
+
+/// The type of the message of a name (RFC 5810, section 7).
+pub fn message_named(name: &[u8]) -> Option<u8> {
+    if is(name, b"Heartbeat") {
+        return Some(0x0f);
+    }
+    if is(name, b"Config") {
+        return Some(0x03);
+    }
+    if is(name, b"ConfigResponse") {
+        return Some(0x13);
+    }
+    if is(name, b"Query") {
+        return Some(0x04);
+    }
+    if is(name, b"QueryResponse") {
+        return Some(0x14);
+    }
+    if is(name, b"EventNotification") {
+        return Some(0x05);
+    }
+    if is(name, b"AssociationSetup") {
+        return Some(0x01);
+    }
+    if is(name, b"AssociationSetupResponse") {
+        return Some(0x11);
+    }
+    if is(name, b"AssociationTeardown") {
+        return Some(0x02);
+    }
+    None
+}
+
+// The type of the operation of a name (RFC 5810, section 7.1.6).
+fn number_named(name: &[u8]) -> Option<u16> {
+    if is(name, b"SET") {
+        return Some(1);
+    }
+    if is(name, b"SET-PROP") {
+        return Some(2);
+    }
+    if is(name, b"SET-RESPONSE") {
+        return Some(3);
+    }
+    if is(name, b"SET-PROP-RESPONSE") {
+        return Some(4);
+    }
+    if is(name, b"DEL") {
+        return Some(5);
+    }
+    if is(name, b"DEL-RESPONSE") {
+        return Some(6);
+    }
+    if is(name, b"GET") {
+        return Some(7);
+    }
+    if is(name, b"GET-PROP") {
+        return Some(8);
+    }
+    if is(name, b"GET-RESPONSE") {
+        return Some(9);
+    }
+    if is(name, b"GET-PROP-RESPONSE") {
+        return Some(10);
+    }
+    if is(name, b"REPORT") {
+        return Some(11);
+    }
+    if is(name, b"COMMIT") {
+        return Some(12);
+    }
+    if is(name, b"COMMIT-RESPONSE") {
+        return Some(13);
+    }
+    if is(name, b"TRCOMP") {
+        return Some(14);
+    }
+    None
+}
+
+/// The operation of a name that may stand in a message of a type.
+pub fn operation_named(message: u8, name: &[u8]) -> Option<Operation> {
+    match number_named(name) {
+        Some(number) => operation_for(message, number),
+        None => None,
+    }
+}
