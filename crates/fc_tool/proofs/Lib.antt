@@ -8,6 +8,7 @@ pub mod Hearing
 pub mod Holding
 pub mod Judged
 pub mod Looking
+pub mod Making
 pub mod OpenPeers
 pub mod Outcomes
 pub mod Pieces

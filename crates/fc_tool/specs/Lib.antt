@@ -2,6 +2,7 @@ pub mod Acting
 pub mod ElementNode
 pub mod ElementRun
 pub mod Lending
+pub mod Make
 pub mod Nexts
 pub mod Pieces
 pub mod Places

@@ -10,6 +10,7 @@ mod giving;
 mod input;
 mod laws;
 mod line;
+mod make;
 mod node;
 mod peers;
 mod serve;
@@ -24,8 +25,9 @@ pub use command::run;
 pub use element::ElementEnd;
 pub use laws::{
     any_pieces, bytes_may_be_cut, element_ends_once, frame_is_judged_once, input_ends_once,
-    node_takes_the_frames, peers_are_distinct, text_is_unique,
+    make_ends_once, node_takes_the_frames, peers_are_distinct, text_is_unique,
 };
+pub use make::Made;
 pub use show::Shown;
 pub use splitter::Splitter;
 pub use stops::Stop;
