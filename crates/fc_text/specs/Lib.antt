@@ -1,1 +1,5 @@
 pub mod Text
+pub mod TextPlaces
+pub mod WordValues
+pub mod LineWords
+pub mod TextReading

@@ -1,6 +1,7 @@
 //! Messages as text (this profile's own), both ways: what `show` prints, and what is read from it.
 #![tactic(auto)]
 
+mod body;
 mod decimal;
 mod fault;
 mod hexes;
@@ -8,7 +9,6 @@ mod lines;
 mod message;
 mod named;
 mod names;
-mod read_body;
 mod read_path;
 mod read_select;
 mod reading;
@@ -17,7 +17,7 @@ mod tests;
 mod values;
 mod words;
 
+pub use body::read_body;
 pub use fault::TextFault;
 pub use message::show;
-pub use read_body::read_body;
 pub use reading::read_text;

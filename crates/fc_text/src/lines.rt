@@ -1,6 +1,12 @@
 // The lines of a text, each with its indentation.
+ghost use Rattle.std.specs.Prelude.{◌≡◌, ◌≤◌, ◌<◌, ◌+◌, ◌*◌, length, take, drop, ◌∷◌, OnOk};
+ghost use Rattle.fc_text.specs.TextPlaces.{Reads, TextTells, place};
+ghost use Rattle.fc_text.specs.LineWords.{lines_of, none_left, spaces_before as spaces, stands_at as stands, line_at, text_lines, closed as is_closed};
+ghost use Rattle.fc_text.specs.declared.fault.TextFault.TheVariants.{At};
+
 use crate::TextFault;
 use crate::words::Words;
+use std::marker::Model;
 
 /// The lines of a text that are still to come.
 #[derive(Debug, Drop)]
@@ -13,11 +19,24 @@ pub struct Lines<'a> {
     indent: usize,
 }
 
+impl<'a> Model for Lines<'a> {
+    ghost use Rattle.std.specs.Prelude.{◌≡◌, ◌<◌, ◌+◌, ◌^◌, length};
+    ghost use Rattle.fc_text.specs.LineWords.{LinesLeft, lines_left, lines_of, spaces_before};
+
+    ghost Value = { LinesLeft };
+
+    ghost view = { λ l. lines_left l.taken (lines_of l.rest.now) };
+
+    ghost invariant = { λ l. (l.indent ≡ spaces_before l.rest.now) × (l.taken + length l.rest.now < 2 ^ 63) };
+}
+
 // How many spaces stand in front.
 #[inline(always)]
-fn spaces_before(bytes: &[u8]) -> usize {
+fn spaces_before(bytes: &[u8]) -> usize
+    ensures { result ≡ spaces bytes.now }
+{
     let mut count = 0;
-    while count < bytes.len() && bytes[count] == b' ' {
+    'bytes: while count < bytes.len() && bytes[count] == b' ' {
         count += 1;
     }
     count
@@ -25,17 +44,37 @@ fn spaces_before(bytes: &[u8]) -> usize {
 
 // How many bytes stand before the first line feed.
 #[inline(always)]
-fn line_len(bytes: &[u8]) -> usize {
+fn line_len(bytes: &[u8]) -> usize
+    requires { 0 < length bytes.now }
+    ensures within { result ≤ length bytes.now }
+    ensures first { lines_of bytes.now ≡ take result bytes.now ∷ lines_of (drop (result + 1) bytes.now) }
+{
     let mut len = 0;
-    while len < bytes.len() && bytes[len] != b'\n' {
+    'bytes: while len < bytes.len() && bytes[len] != b'\n' {
         len += 1;
     }
     len
 }
 
+// The first line, and what stands behind its line feed.
+#[inline(always)]
+fn first_line(bytes: &[u8]) -> (&[u8], &[u8])
+    requires { 0 < length bytes.now }
+    ensures cut { lines_of bytes.now ≡ result.0.now ∷ lines_of result.1.now }
+    ensures less { length result.1.now < length bytes.now }
+{
+    let len = line_len(bytes);
+    if len < bytes.len() {
+        return (&bytes[..len], &bytes[len + 1..]);
+    }
+    (bytes, &bytes[len..])
+}
+
 impl<'a> Lines<'a> {
     /// The lines of a text. A line feed at its end begins no other line.
-    pub fn over(text: &'a [u8]) -> Lines<'a> {
+    pub fn over(text: &'a [u8]) -> Lines<'a>
+        ensures { result ≡ text_lines text.now }
+    {
         Lines {
             rest: text,
             taken: 0,
@@ -45,47 +84,69 @@ impl<'a> Lines<'a> {
 
     /// Whether no line is left.
     #[inline(always)]
-    pub fn is_empty(&self) -> bool {
+    pub fn is_empty(&self) -> bool
+        ensures { result ≡ none_left self.now.lines }
+    {
         self.rest.is_empty()
     }
 
     /// The number of the next line, from 1, which at the end of the text is that of the line behind the last one.
     #[inline(always)]
-    pub fn number(&self) -> usize {
+    pub fn number(&self) -> usize
+        ensures { result ≡ self.now.taken + 1 }
+    {
         self.taken + 1
     }
 
     /// Whether there is a next line, and it is indented by this level: by two spaces for each.
     #[inline(always)]
-    pub fn stands_at(&self, level: usize) -> bool {
+    pub fn stands_at(&self, level: usize) -> bool
+        requires { level ≤ 20 }
+        ensures { result ≡ stands level self.now.lines }
+    {
         !self.rest.is_empty() && self.indent == 2 * level
     }
 
     /// The fault of a next line whose indentation is wrong, or that is missing.
     #[inline(always)]
-    pub fn misplaced(&self) -> TextFault {
+    pub fn misplaced(&self) -> TextFault
+        ensures { result ≡ At (self.now.taken + 1) 1 }
+    {
         TextFault::At {
             line: self.number(),
             column: 1,
         }
     }
 
+    /// That no line is left.
+    #[tactic(auto, unfolding(crate::specs::LineWords::closed))]
+    pub fn closed(&self) -> Result<(), TextFault>
+        ensures { TextTells (is_closed self.now) result }
+    {
+        if self.is_empty() {
+            return Ok(());
+        }
+        Err(self.misplaced())
+    }
+
     /// Takes the next line, which has to be indented by this level. Gives its words.
     #[inline(always)]
-    pub fn take(&mut self, level: usize) -> Result<Words<'a>, TextFault> {
+    #[tactic(auto, unfolding(crate::specs::LineWords::line_at))]
+    pub fn take(&mut self, level: usize) -> Result<Words<'a>, TextFault>
+        requires { level ≤ 20 }
+        ensures exact { Reads (line_at level self.old) result self.new }
+        ensures less { OnOk result (length self.new.lines < length self.old.lines) }
+    {
         if !self.stands_at(level) {
             return Err(self.misplaced());
         }
         let number = self.number();
-        let len = line_len(self.rest);
-        let words = Words::over(&self.rest[2 * level..len], number, 2 * level + 1);
-        self.rest = if len < self.rest.len() {
-            &self.rest[len + 1..]
-        } else {
-            &[]
-        };
+        let (line, others) = first_line(self.rest);
+        let (_, text) = line.split_at(2 * level);
+        let words = Words::over(text, number, 2 * level + 1);
+        self.rest = others;
         self.taken = number;
-        self.indent = spaces_before(self.rest);
+        self.indent = spaces_before(others);
         Ok(words)
     }
 }

@@ -1,9 +1,15 @@
 // What the names of messages and operations mean.
+ghost use Rattle.std.specs.Prelude.{◌≡◌};
+ghost use Rattle.fc_text.specs.TextReading.{message_named as message_of, number_named as number_of, operation_named as operation_of};
+
 use crate::words::is;
 use fc_path::{Operation, operation_for};
 
 /// The type of the message of a name (RFC 5810, section 7).
-pub fn message_named(name: &[u8]) -> Option<u8> {
+#[tactic(auto, unfolding(crate::specs::TextReading::message_named))]
+pub fn message_named(name: &[u8]) -> Option<u8>
+    ensures { result ≡ message_of name.now }
+{
     if is(name, b"Heartbeat") {
         return Some(0x0f);
     }
@@ -35,7 +41,10 @@ pub fn message_named(name: &[u8]) -> Option<u8> {
 }
 
 // The type of the operation of a name (RFC 5810, section 7.1.6).
-fn number_named(name: &[u8]) -> Option<u16> {
+#[tactic(auto, unfolding(crate::specs::TextReading::number_named))]
+fn number_named(name: &[u8]) -> Option<u16>
+    ensures { result ≡ number_of name.now }
+{
     if is(name, b"SET") {
         return Some(1);
     }
@@ -82,7 +91,10 @@ fn number_named(name: &[u8]) -> Option<u16> {
 }
 
 /// The operation of a name that may stand in a message of a type.
-pub fn operation_named(message: u8, name: &[u8]) -> Option<Operation> {
+#[tactic(auto, unfolding(crate::specs::TextReading::operation_named))]
+pub fn operation_named(message: u8, name: &[u8]) -> Option<Operation>
+    ensures { result ≡ operation_of message name.now }
+{
     match number_named(name) {
         Some(number) => operation_for(message, number),
         None => None,

@@ -1,4 +1,10 @@
 // Reading PATH-DATA from lines.
+ghost use Rattle.std.specs.Prelude.{◌≡◌, ◌≤◌, ◌<◌, ◌+◌, ◌&&◌, not, length, OnOk};
+ghost use Rattle.fc_text.specs.TextPlaces.{Reads, TextTells};
+ghost use Rattle.fc_path.specs.Kinds.{takes_nothing};
+ghost use Rattle.fc_text.specs.LineWords.{stands_at};
+ghost use Rattle.fc_text.specs.TextReading.{body_at, body_by, code_in, ilv_at, key_in, last_body, leaf_in, many_at, outcome_at, path_by, path_line, paths_by, steps_in};
+
 use crate::TextFault;
 use crate::lines::Lines;
 use crate::values::decimal_of;
@@ -9,7 +15,10 @@ use fc_wire::Ilv;
 use std::alloc::Global;
 
 // The number and the value of a key, with which its line ends.
-fn read_key(alloc: Global, mut words: Words) -> Result<Key, TextFault> {
+#[tactic(auto, unfolding(crate::specs::TextReading::key_in))]
+fn read_key(alloc: Global, mut words: Words) -> Result<Key, TextFault>
+    ensures { TextTells (key_in words.entry) result }
+{
     let ident = words.decimal()?;
     let value = words.octets(alloc)?;
     words.end()?;
@@ -17,7 +26,10 @@ fn read_key(alloc: Global, mut words: Words) -> Result<Key, TextFault> {
 }
 
 // The IDs and the key of a PATH-DATA, with which its line ends.
-fn read_steps(alloc: Global, mut words: Words) -> Result<(List<u32>, Option<Key>), TextFault> {
+#[tactic(auto, unfolding(crate::specs::TextReading::steps_in))]
+fn read_steps(alloc: Global, mut words: Words) -> Result<(List<u32>, Option<Key>), TextFault>
+    ensures { TextTells (steps_in words.entry) result }
+{
     let mut ids = List::new(alloc);
     'words: while let Some(word) = words.next() {
         if is(word.text, b"key") {
@@ -33,7 +45,12 @@ fn read_steps(alloc: Global, mut words: Words) -> Result<(List<u32>, Option<Key>
 }
 
 // The line of an ILV at a level.
-fn read_ilv(alloc: Global, level: usize, lines: &mut Lines) -> Result<Ilv, TextFault> {
+#[tactic(auto, unfolding(crate::specs::TextReading::ilv_at))]
+fn read_ilv(alloc: Global, level: usize, lines: &mut Lines) -> Result<Ilv, TextFault>
+    requires { level ≤ 20 }
+    ensures exact { Reads (ilv_at level lines.old) result lines.new }
+    ensures less { OnOk result (length lines.new.lines < length lines.old.lines) }
+{
     let mut words = lines.take(level)?;
     words.exactly(b"ilv")?;
     let ident = words.decimal()?;
@@ -43,7 +60,11 @@ fn read_ilv(alloc: Global, level: usize, lines: &mut Lines) -> Result<Ilv, TextF
 }
 
 // The lines of ILVs at a level.
-fn read_ilvs(alloc: Global, level: usize, lines: &mut Lines) -> Result<List<Ilv>, TextFault> {
+fn read_ilvs(alloc: Global, level: usize, lines: &mut Lines) -> Result<List<Ilv>, TextFault>
+    requires { level ≤ 20 }
+    ensures exact { Reads (many_at level (ilv_at level) lines.old) result lines.new }
+    ensures less { OnOk result (length lines.new.lines ≤ length lines.old.lines) }
+{
     let mut ilvs = List::new(alloc);
     'lines: while lines.stands_at(level) {
         let ilv = read_ilv(alloc, level, lines)?;
@@ -53,20 +74,29 @@ fn read_ilvs(alloc: Global, level: usize, lines: &mut Lines) -> Result<List<Ilv>
 }
 
 // A code, with which its line ends.
-fn read_code(mut words: Words) -> Result<Code, TextFault> {
+#[tactic(auto, unfolding(crate::specs::TextReading::code_in))]
+fn read_code(mut words: Words) -> Result<Code, TextFault>
+    ensures { TextTells (code_in words.entry) result }
+{
     let code = words.two_digits()?;
     words.end()?;
     Ok(Code(code))
 }
 
 /// The line of a code at a level.
-pub fn read_outcome(level: usize, lines: &mut Lines) -> Result<Code, TextFault> {
+#[tactic(auto, unfolding(crate::specs::TextReading::outcome_at))]
+pub fn read_outcome(level: usize, lines: &mut Lines) -> Result<Code, TextFault>
+    requires { level ≤ 20 }
+    ensures exact { Reads (outcome_at level lines.old) result lines.new }
+    ensures less { OnOk result (length lines.new.lines < length lines.old.lines) }
+{
     let mut words = lines.take(level)?;
     words.exactly(b"code")?;
     read_code(words)
 }
 
 // The body at a level that begins with this word and holds no PATH-DATA.
+#[tactic(auto, unfolding(crate::specs::TextReading::leaf_in))]
 fn read_leaf(
     alloc: Global,
     kind: OperKind,
@@ -74,7 +104,11 @@ fn read_leaf(
     word: &Word,
     mut words: Words,
     lines: &mut Lines,
-) -> Result<Body, TextFault> {
+) -> Result<Body, TextFault>
+    requires { level < 20 }
+    ensures exact { Reads (leaf_in kind level word.now words.entry lines.old) result lines.new }
+    ensures less { OnOk result (length lines.new.lines ≤ length lines.old.lines) }
+{
     if kind.takes_full() && is(word.text, b"full") {
         let value = words.octets(alloc)?;
         words.end()?;
@@ -82,16 +116,39 @@ fn read_leaf(
     }
     if kind.takes_sparse() && is(word.text, b"sparse") {
         words.end()?;
-        return Ok(Body::Sparse(read_ilvs(alloc, level + 1, lines)?));
+        let ilvs = read_ilvs(alloc, level + 1, lines)?;
+        return Ok(Body::Sparse(ilvs));
     }
     if kind.takes_outcome() && is(word.text, b"code") {
-        return Ok(Body::Outcome(read_code(words)?));
+        let code = read_code(words)?;
+        return Ok(Body::Outcome(code));
     }
     Err(words.misfit(word))
 }
 
+// A body at a level, inside of which no more PATH-DATA may stand.
+#[tactic(auto, unfolding(crate::specs::TextReading::last_body))]
+fn read_last_body(
+    alloc: Global,
+    kind: OperKind,
+    level: usize,
+    lines: &mut Lines,
+) -> Result<Body, TextFault>
+    requires { level < 20 }
+    ensures exact { Reads (last_body kind level lines.old) result lines.new }
+    ensures less { OnOk result (length lines.new.lines ≤ length lines.old.lines) }
+{
+    if kind.takes_nothing() {
+        return Ok(Body::Nothing);
+    }
+    let mut words = lines.take(level)?;
+    let word = words.word()?;
+    read_leaf(alloc, kind, level, &word, words, lines)
+}
+
 // The PATH-DATA at a level behind the word `path`, inside of which so many levels of others may stand.
 #[cycle(read)]
+#[tactic(auto, unfolding(crate::specs::TextReading::path_by))]
 fn read_path(
     alloc: Global,
     kind: OperKind,
@@ -99,13 +156,70 @@ fn read_path(
     level: usize,
     words: Words,
     lines: &mut Lines,
-) -> Result<PathData, TextFault> {
+) -> Result<PathData, TextFault>
+    requires { level + depth < 19 }
+    ensures exact { Reads (path_by (body_at kind depth) level words.entry lines.old) result lines.new }
+    ensures less { OnOk result (length lines.new.lines ≤ length lines.old.lines) }
+{
     let (ids, key) = read_steps(alloc, words)?;
     let body = read_body(alloc, kind, depth, level + 1, lines)?;
     Ok(PathData { ids, key, body })
 }
 
-// The body at a level of a PATH-DATA.
+// The line of a PATH-DATA at a level, and what stands below it.
+#[cycle(read)]
+#[tactic(auto, unfolding(crate::specs::TextReading::path_line))]
+fn read_path_line(
+    alloc: Global,
+    kind: OperKind,
+    depth: usize,
+    level: usize,
+    lines: &mut Lines,
+) -> Result<PathData, TextFault>
+    requires { level + depth < 19 }
+    ensures exact { Reads (path_line (body_at kind depth) level lines.old) result lines.new }
+    ensures less { OnOk result (length lines.new.lines < length lines.old.lines) }
+{
+    let mut words = lines.take(level)?;
+    words.exactly(b"path")?;
+    read_path(alloc, kind, depth, level, words, lines)
+}
+
+// Whether a body ends before its first line, which is not at this level.
+fn is_bare(kind: OperKind, level: usize, lines: &Lines) -> bool
+    requires { level < 20 }
+    ensures { result ≡ (takes_nothing kind && not (stands_at level lines.now.lines)) }
+{
+    kind.takes_nothing() && !lines.stands_at(level)
+}
+
+// The body at a level of a PATH-DATA, inside of which PATH-DATA may stand, and so many levels of others in each.
+#[cycle(read)]
+#[tactic(auto, unfolding(crate::specs::TextReading::body_by))]
+fn read_open_body(
+    alloc: Global,
+    kind: OperKind,
+    depth: usize,
+    level: usize,
+    lines: &mut Lines,
+) -> Result<Body, TextFault>
+    requires { level + depth < 19 }
+    ensures exact { Reads (body_by kind (body_at kind depth) level lines.old) result lines.new }
+    ensures less { OnOk result (length lines.new.lines ≤ length lines.old.lines) }
+{
+    if is_bare(kind, level, lines) {
+        return Ok(Body::Nothing);
+    }
+    let mut words = lines.take(level)?;
+    let word = words.word()?;
+    if is(word.text, b"path") {
+        let paths = read_paths(alloc, kind, depth, level, words, lines)?;
+        return Ok(Body::Nested(paths));
+    }
+    read_leaf(alloc, kind, level, &word, words, lines)
+}
+
+// The body at a level of a PATH-DATA, inside of which so many levels of others may stand.
 #[cycle(read)]
 fn read_body(
     alloc: Global,
@@ -113,21 +227,20 @@ fn read_body(
     depth: usize,
     level: usize,
     lines: &mut Lines,
-) -> Result<Body, TextFault> {
-    if kind.takes_nothing() && (depth == 0 || !lines.stands_at(level)) {
-        return Ok(Body::Nothing);
+) -> Result<Body, TextFault>
+    requires { level + depth < 20 }
+    ensures exact { Reads (body_at kind depth level lines.old) result lines.new }
+    ensures less { OnOk result (length lines.new.lines ≤ length lines.old.lines) }
+{
+    if depth == 0 {
+        return read_last_body(alloc, kind, level, lines);
     }
-    let mut words = lines.take(level)?;
-    let word = words.word()?;
-    if depth > 0 && is(word.text, b"path") {
-        let paths = read_paths(alloc, kind, depth - 1, level, words, lines)?;
-        return Ok(Body::Nested(paths));
-    }
-    read_leaf(alloc, kind, level, &word, words, lines)
+    read_open_body(alloc, kind, depth - 1, level, lines)
 }
 
 /// The PATH-DATA at a level, the first one behind the word `path`, inside of which so many levels of others may stand.
 #[cycle(read)]
+#[tactic(auto, unfolding(crate::specs::TextReading::paths_by))]
 pub fn read_paths(
     alloc: Global,
     kind: OperKind,
@@ -135,14 +248,16 @@ pub fn read_paths(
     level: usize,
     words: Words,
     lines: &mut Lines,
-) -> Result<List<PathData>, TextFault> {
+) -> Result<List<PathData>, TextFault>
+    requires { level + depth < 19 }
+    ensures exact { Reads (paths_by (body_at kind depth) level words.entry lines.old) result lines.new }
+    ensures less { OnOk result (length lines.new.lines ≤ length lines.old.lines) }
+{
     let mut paths = List::new(alloc);
     let path = read_path(alloc, kind, depth, level, words, lines)?;
     paths.push(path)?;
     'lines: while lines.stands_at(level) {
-        let mut words = lines.take(level)?;
-        words.exactly(b"path")?;
-        let path = read_path(alloc, kind, depth, level, words, lines)?;
+        let path = read_path_line(alloc, kind, depth, level, lines)?;
         paths.push(path)?;
     }
     Ok(paths)

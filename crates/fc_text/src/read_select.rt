@@ -1,7 +1,10 @@
 // Reading operations and selects from lines.
+ghost use Rattle.std.specs.Prelude.{◌≡◌, ◌≤◌, ◌<◌, length, OnOk};
+ghost use Rattle.fc_text.specs.TextPlaces.{Reads};
+ghost use Rattle.fc_text.specs.TextReading.{many_at, oper_at as oper_in, operation_at, places_at, select_at as select_in, some_at};
+
 use crate::TextFault;
 use crate::lines::Lines;
-use crate::named::operation_named;
 use crate::read_path::{read_outcome, read_paths};
 use fc_base::List;
 use fc_path::{Oper, OperKind, Operation, PathData, Select};
@@ -11,12 +14,17 @@ use std::alloc::Global;
 const DEPTH: usize = 15;
 
 // The PATH-DATA of an operation, of which there is at least one.
+#[tactic(auto, unfolding(crate::specs::TextReading::places_at))]
 fn read_places(
     alloc: Global,
     kind: OperKind,
     level: usize,
     lines: &mut Lines,
-) -> Result<List<PathData>, TextFault> {
+) -> Result<List<PathData>, TextFault>
+    requires { level ≤ 3 }
+    ensures exact { Reads (places_at kind level lines.old) result lines.new }
+    ensures less { OnOk result (length lines.new.lines < length lines.old.lines) }
+{
     let mut words = lines.take(level)?;
     words.exactly(b"path")?;
     read_paths(alloc, kind, DEPTH, level, words, lines)
@@ -28,40 +36,50 @@ fn read_operation(
     operation: Operation,
     level: usize,
     lines: &mut Lines,
-) -> Result<Oper, TextFault> {
+) -> Result<Oper, TextFault>
+    requires { level ≤ 3 }
+    ensures exact { Reads (operation_at operation level lines.old) result lines.new }
+    ensures less { OnOk result (length lines.new.lines ≤ length lines.old.lines) }
+{
     match operation {
-        Operation::Paths(kind) => Ok(Oper::Paths(kind, read_places(alloc, kind, level, lines)?)),
+        Operation::Paths(kind) => {
+            let paths = read_places(alloc, kind, level, lines)?;
+            Ok(Oper::Paths(kind, paths))
+        }
         Operation::Commit => Ok(Oper::Commit),
         Operation::Trcomp => Ok(Oper::Trcomp),
-        Operation::CommitResponse => Ok(Oper::CommitResponse(read_outcome(level, lines)?)),
-    }
-}
-
-// An operation at a level of a message of a type.
-fn read_oper(
-    alloc: Global,
-    message: u8,
-    level: usize,
-    lines: &mut Lines,
-) -> Result<Oper, TextFault> {
-    let mut words = lines.take(level)?;
-    let name = words.word()?;
-    match operation_named(message, name.text) {
-        None => Err(words.misfit(&name)),
-        Some(operation) => {
-            words.end()?;
-            read_operation(alloc, operation, level + 1, lines)
+        Operation::CommitResponse => {
+            let code = read_outcome(level, lines)?;
+            Ok(Oper::CommitResponse(code))
         }
     }
 }
 
+// An operation at a level of a message of a type.
+#[tactic(auto, unfolding(crate::specs::TextReading::oper_at))]
+fn read_oper(alloc: Global, message: u8, level: usize, lines: &mut Lines) -> Result<Oper, TextFault>
+    requires { level ≤ 2 }
+    ensures exact { Reads (oper_in message level lines.old) result lines.new }
+    ensures less { OnOk result (length lines.new.lines < length lines.old.lines) }
+{
+    let mut words = lines.take(level)?;
+    let operation = words.operation(message)?;
+    words.end()?;
+    read_operation(alloc, operation, level + 1, lines)
+}
+
 // The operations at a level, of which there is at least one.
+#[tactic(auto, unfolding(crate::specs::TextReading::some_at))]
 fn read_opers(
     alloc: Global,
     message: u8,
     level: usize,
     lines: &mut Lines,
-) -> Result<List<Oper>, TextFault> {
+) -> Result<List<Oper>, TextFault>
+    requires { level ≤ 2 }
+    ensures exact { Reads (some_at level (oper_in message level) lines.old) result lines.new }
+    ensures less { OnOk result (length lines.new.lines ≤ length lines.old.lines) }
+{
     let mut opers = List::new(alloc);
     let oper = read_oper(alloc, message, level, lines)?;
     opers.push(oper)?;
@@ -73,12 +91,17 @@ fn read_opers(
 }
 
 // An LFBselect at a level of a message of a type.
+#[tactic(auto, unfolding(crate::specs::TextReading::select_at))]
 fn read_select(
     alloc: Global,
     message: u8,
     level: usize,
     lines: &mut Lines,
-) -> Result<Select, TextFault> {
+) -> Result<Select, TextFault>
+    requires { level ≤ 1 }
+    ensures exact { Reads (select_in message level lines.old) result lines.new }
+    ensures less { OnOk result (length lines.new.lines < length lines.old.lines) }
+{
     let mut words = lines.take(level)?;
     words.exactly(b"lfb")?;
     let class = words.eight_digits()?;
@@ -98,7 +121,11 @@ pub fn read_selects(
     message: u8,
     level: usize,
     lines: &mut Lines,
-) -> Result<List<Select>, TextFault> {
+) -> Result<List<Select>, TextFault>
+    requires { level ≤ 1 }
+    ensures exact { Reads (many_at level (select_in message level) lines.old) result lines.new }
+    ensures less { OnOk result (length lines.new.lines ≤ length lines.old.lines) }
+{
     let mut selects = List::new(alloc);
     'lines: while lines.stands_at(level) {
         let select = read_select(alloc, message, level, lines)?;
@@ -108,12 +135,17 @@ pub fn read_selects(
 }
 
 /// The same, of which there is at least one.
+#[tactic(auto, unfolding(crate::specs::TextReading::some_at))]
 pub fn read_some_selects(
     alloc: Global,
     message: u8,
     level: usize,
     lines: &mut Lines,
-) -> Result<List<Select>, TextFault> {
+) -> Result<List<Select>, TextFault>
+    requires { level ≤ 1 }
+    ensures exact { Reads (some_at level (select_in message level) lines.old) result lines.new }
+    ensures less { OnOk result (length lines.new.lines ≤ length lines.old.lines) }
+{
     let mut selects = List::new(alloc);
     let select = read_select(alloc, message, level, lines)?;
     selects.push(select)?;

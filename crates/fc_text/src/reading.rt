@@ -1,10 +1,14 @@
 // Text to messages.
+ghost use Rattle.std.specs.Prelude.{◌≡◌, ◌≤◌, ◌<◌, length, true, IfOk, OnOk};
+ghost use Rattle.fc_msg.specs.Bodies.{holding as body_holding};
+ghost use Rattle.fc_msg.specs.Messages.{message_fits};
+ghost use Rattle.fc_text.specs.TextPlaces.{Reads, TextTells};
+ghost use Rattle.fc_text.specs.TextReading.{content_at, head_at, message_at, number_at, shut as is_shut, many_at, text_in, whole_at};
+
 use crate::TextFault;
 use crate::lines::Lines;
-use crate::named::message_named;
 use crate::read_select::{read_selects, read_some_selects};
-use crate::words::Words;
-use fc_base::{List, WriteFault};
+use fc_base::{List, Memory, WriteFault};
 use fc_msg::{Message, MsgBody, encode};
 use fc_path::Select;
 use fc_wire::Flags;
@@ -13,18 +17,34 @@ use std::alloc::Global;
 /// The messages of a text in the layout of `show`, whose last line may lack its line feed, or the first line that does
 /// not fit, with its first word that does not. Hexadecimal digits are taken in either case, and the free bits of flags
 /// are dropped. A message that `encode` refuses does not fit at its first line.
-pub fn read_text(alloc: Global, bytes: &[u8]) -> Result<List<Message>, TextFault> {
+#[tactic(auto, unfolding(crate::specs::TextReading::text_in))]
+pub fn read_text(alloc: Global, bytes: &[u8]) -> Result<List<Message>, TextFault>
+    ensures { TextTells (text_in bytes.now) result }
+{
     let mut lines = Lines::over(bytes);
+    let messages = read_messages(alloc, &mut lines)?;
+    lines.closed()?;
+    Ok(messages)
+}
+
+// The messages in front of lines.
+fn read_messages(alloc: Global, lines: &mut Lines) -> Result<List<Message>, TextFault>
+    ensures { Reads (many_at 0 message_at lines.old) result lines.new }
+{
     let mut messages = List::new(alloc);
-    'messages: while !lines.is_empty() {
-        let message = read_message(alloc, &mut lines)?;
+    'lines: while lines.stands_at(0) {
+        let message = read_message(alloc, lines)?;
         messages.push(message)?;
     }
     Ok(messages)
 }
 
 // A message that can be encoded.
-fn read_message(alloc: Global, lines: &mut Lines) -> Result<Message, TextFault> {
+#[tactic(auto, unfolding(crate::specs::TextReading::message_at))]
+fn read_message(alloc: Global, lines: &mut Lines) -> Result<Message, TextFault>
+    ensures exact { Reads (message_at lines.old) result lines.new }
+    ensures less { OnOk result (length lines.new.lines < length lines.old.lines) }
+{
     let first = lines.misplaced();
     let message = read_whole(alloc, lines)?;
     if !can_encode(alloc, &message)? {
@@ -34,33 +54,72 @@ fn read_message(alloc: Global, lines: &mut Lines) -> Result<Message, TextFault> 
 }
 
 // A message, behind which another begins, or the text ends.
-fn read_whole(alloc: Global, lines: &mut Lines) -> Result<Message, TextFault> {
+#[tactic(auto, unfolding(crate::specs::TextReading::whole_at))]
+fn read_whole(alloc: Global, lines: &mut Lines) -> Result<Message, TextFault>
+    ensures exact { Reads (whole_at lines.old) result lines.new }
+    ensures less { OnOk result (length lines.new.lines < length lines.old.lines) }
+{
+    let head = read_head(lines)?;
+    let body = read_content(alloc, head.kind, lines)?;
+    shut(lines)?;
+    Ok(Message {
+        source: head.source,
+        dest: head.dest,
+        corr: head.corr,
+        flags: Flags::from_word(head.flags),
+        body,
+    })
+}
+
+// That another message begins here, or the text ends.
+#[tactic(auto, unfolding(crate::specs::TextReading::shut))]
+fn shut(lines: &Lines) -> Result<(), TextFault>
+    ensures { TextTells (is_shut lines.now) result }
+{
+    if lines.stands_at(0) {
+        return Ok(());
+    }
+    lines.closed()
+}
+
+// What the line of a message says.
+#[derive(Drop)]
+struct Head {
+    kind: u8,
+    source: u32,
+    dest: u32,
+    corr: u64,
+    flags: u32,
+}
+
+// The line of a message.
+#[tactic(auto, unfolding(crate::specs::TextReading::head_at))]
+fn read_head(lines: &mut Lines) -> Result<Head, TextFault>
+    ensures exact { Reads (head_at lines.old) result lines.new }
+    ensures less { OnOk result (length lines.new.lines < length lines.old.lines) }
+{
     let mut words = lines.take(0)?;
-    let name = words.word()?;
-    let kind = match message_named(name.text) {
-        Some(kind) => kind,
-        None => return Err(words.misfit(&name)),
-    };
+    let kind = words.message()?;
     let source = words.labelled_eight(b"from=")?;
     let dest = words.labelled_eight(b"to=")?;
     let corr = words.labelled_sixteen(b"corr=")?;
     let flags = words.labelled_eight(b"flags=")?;
     words.end()?;
-    let body = read_content(alloc, kind, lines)?;
-    if !lines.is_empty() && !lines.stands_at(0) {
-        return Err(lines.misplaced());
-    }
-    Ok(Message {
+    Ok(Head {
+        kind,
         source,
         dest,
         corr,
-        flags: Flags::from_word(flags),
-        body,
+        flags,
     })
 }
 
 // The line of a number.
-fn read_number(name: &[u8], lines: &mut Lines) -> Result<u32, TextFault> {
+#[tactic(auto, unfolding(crate::specs::TextReading::number_at))]
+fn read_number(name: &[u8], lines: &mut Lines) -> Result<u32, TextFault>
+    ensures exact { Reads (number_at name.now lines.old) result lines.new }
+    ensures less { OnOk result (length lines.new.lines ≤ length lines.old.lines) }
+{
     let mut words = lines.take(1)?;
     words.exactly(name)?;
     let number = words.decimal()?;
@@ -69,7 +128,9 @@ fn read_number(name: &[u8], lines: &mut Lines) -> Result<u32, TextFault> {
 }
 
 // The body of a type that holds these selects.
-fn holding(kind: u8, selects: List<Select>) -> MsgBody {
+fn holding(kind: u8, selects: List<Select>) -> MsgBody
+    ensures { result ≡ body_holding kind selects }
+{
     match kind {
         0x03 => MsgBody::Config(selects),
         0x13 => MsgBody::ConfigResponse(selects),
@@ -81,22 +142,40 @@ fn holding(kind: u8, selects: List<Select>) -> MsgBody {
 }
 
 // The body of a message of a type.
-fn read_content(alloc: Global, kind: u8, lines: &mut Lines) -> Result<MsgBody, TextFault> {
+#[tactic(auto, unfolding(crate::specs::TextReading::content_at))]
+fn read_content(alloc: Global, kind: u8, lines: &mut Lines) -> Result<MsgBody, TextFault>
+    ensures exact { Reads (content_at kind lines.old) result lines.new }
+    ensures less { OnOk result (length lines.new.lines ≤ length lines.old.lines) }
+{
     match kind {
         0x0f => Ok(MsgBody::Heartbeat),
-        0x11 => Ok(MsgBody::SetupResponse(read_number(b"result", lines)?)),
-        0x02 => Ok(MsgBody::Teardown(read_number(b"reason", lines)?)),
-        0x01 => Ok(MsgBody::Setup(read_selects(alloc, kind, 1, lines)?)),
-        _ => Ok(holding(kind, read_some_selects(alloc, kind, 1, lines)?)),
+        0x11 => {
+            let result = read_number(b"result", lines)?;
+            Ok(MsgBody::SetupResponse(result))
+        }
+        0x02 => {
+            let reason = read_number(b"reason", lines)?;
+            Ok(MsgBody::Teardown(reason))
+        }
+        0x01 => {
+            let selects = read_selects(alloc, kind, 1, lines)?;
+            Ok(MsgBody::Setup(selects))
+        }
+        _ => {
+            let selects = read_some_selects(alloc, kind, 1, lines)?;
+            Ok(holding(kind, selects))
+        }
     }
 }
 
 // Whether `encode` takes a message.
-fn can_encode(alloc: Global, message: &Message) -> Result<bool, TextFault> {
+fn can_encode(alloc: Global, message: &Message) -> Result<bool, Memory>
+    ensures { IfOk result (λ fits. fits ≡ message_fits message.now) }
+{
     let mut bytes = Vec::new(alloc);
     match encode(message, &mut bytes) {
         Ok(()) => Ok(true),
         Err(WriteFault::TooLong) => Ok(false),
-        Err(WriteFault::Memory) => Err(TextFault::Memory),
+        Err(WriteFault::Memory) => Err(Memory),
     }
 }

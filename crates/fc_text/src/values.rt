@@ -1,22 +1,34 @@
 // What the words for numbers and bytes mean.
+ghost use Rattle.std.specs.Prelude.{◌≡◌, ◌≤◌, ◌<◌, ◌^◌, length, IfOk, IfSome};
+ghost use Rattle.fc_text.specs.WordValues.{digit_of as value_of, hexadecimal as hex_value, digits_of, decimals as decimal_value, decimal_of as decimal_word, pairs_of, octets_of as octets_word};
+
 use fc_base::{Memory, Octets};
 use std::alloc::Global;
 
 // The value of a hexadecimal digit of either case.
 #[inline(always)]
-fn digit(byte: u8) -> Option<u8> {
-    match byte {
-        b'0'..=b'9' => Some(byte - b'0'),
-        b'A'..=b'F' => Some(byte - b'A' + 10),
-        b'a'..=b'f' => Some(byte - b'a' + 10),
-        _ => None,
+fn digit(byte: u8) -> Option<u8>
+    ensures exact { result ≡ value_of byte }
+    ensures small { IfSome result (λ d. d < 16) }
+{
+    if b'0' <= byte && byte <= b'9' {
+        return Some(byte - b'0');
     }
+    if b'A' <= byte && byte <= b'F' {
+        return Some(byte - (b'A' - 10));
+    }
+    if b'a' <= byte && byte <= b'f' {
+        return Some(byte - (b'a' - 10));
+    }
+    None
 }
 
 // The number of at most 16 hexadecimal digits.
 #[inline(always)]
 fn hexadecimal(word: &[u8]) -> Option<u64>
     requires { length word.now ≤ 16 }
+    ensures exact { result ≡ hex_value 0 word.now }
+    ensures small { IfSome result (λ n. n < 16 ^ length word.now) }
 {
     let mut number = 0u64;
     for byte in word {
@@ -29,7 +41,10 @@ fn hexadecimal(word: &[u8]) -> Option<u64>
 }
 
 /// The number of two hexadecimal digits.
-pub fn two_digits_of(word: &[u8]) -> Option<u8> {
+#[tactic(auto, unfolding(crate::specs::WordValues::digits_of))]
+pub fn two_digits_of(word: &[u8]) -> Option<u8>
+    ensures { result ≡ digits_of 2 word.now }
+{
     if word.len() != 2 {
         return None;
     }
@@ -40,8 +55,11 @@ pub fn two_digits_of(word: &[u8]) -> Option<u8> {
 }
 
 /// The number of eight hexadecimal digits.
+#[tactic(auto, unfolding(crate::specs::WordValues::digits_of))]
 #[inline(always)]
-pub fn eight_digits_of(word: &[u8]) -> Option<u32> {
+pub fn eight_digits_of(word: &[u8]) -> Option<u32>
+    ensures { result ≡ digits_of 8 word.now }
+{
     if word.len() != 8 {
         return None;
     }
@@ -52,8 +70,11 @@ pub fn eight_digits_of(word: &[u8]) -> Option<u32> {
 }
 
 /// The number of sixteen hexadecimal digits.
+#[tactic(auto, unfolding(crate::specs::WordValues::digits_of))]
 #[inline(always)]
-pub fn sixteen_digits_of(word: &[u8]) -> Option<u64> {
+pub fn sixteen_digits_of(word: &[u8]) -> Option<u64>
+    ensures { result ≡ digits_of 16 word.now }
+{
     if word.len() != 16 {
         return None;
     }
@@ -61,16 +82,26 @@ pub fn sixteen_digits_of(word: &[u8]) -> Option<u64> {
 }
 
 /// The decimal number below 2^32 without leading zeros.
-pub fn decimal_of(word: &[u8]) -> Option<u32> {
-    let (first, others) = word.split_first()?;
-    if *first == b'0' && !others.is_empty() {
-        return None;
+#[tactic(auto, unfolding(crate::specs::WordValues::decimal_of))]
+pub fn decimal_of(word: &[u8]) -> Option<u32>
+    ensures { result ≡ decimal_word word.now }
+{
+    match word {
+        [] => None,
+        [_] => decimals(word),
+        [first, _, ..] => {
+            if *first == b'0' {
+                return None;
+            }
+            decimals(word)
+        }
     }
-    decimals(word)
 }
 
 // The number of decimal digits, while it is below 2^32.
-fn decimals(word: &[u8]) -> Option<u32> {
+fn decimals(word: &[u8]) -> Option<u32>
+    ensures { result ≡ decimal_value 0 word.now }
+{
     let mut number = 0u32;
     for byte in word {
         if *byte < b'0' || b'9' < *byte {
@@ -86,7 +117,10 @@ fn decimals(word: &[u8]) -> Option<u32> {
 }
 
 /// The bytes of a word: two hexadecimal digits each, or a hyphen for none.
-pub fn octets_of(alloc: Global, word: &[u8]) -> Result<Option<Octets>, Memory> {
+#[tactic(auto, unfolding(crate::specs::WordValues::octets_of))]
+pub fn octets_of(alloc: Global, word: &[u8]) -> Result<Option<Octets>, Memory>
+    ensures { IfOk result (λ octets. octets ≡ octets_word word.now) }
+{
     if word == b"-".as_slice() {
         return Ok(Some(Octets::new(alloc)));
     }
@@ -97,7 +131,9 @@ pub fn octets_of(alloc: Global, word: &[u8]) -> Result<Option<Octets>, Memory> {
 }
 
 // The bytes of pairs of hexadecimal digits.
-fn pairs(alloc: Global, word: &[u8]) -> Result<Option<Octets>, Memory> {
+fn pairs(alloc: Global, word: &[u8]) -> Result<Option<Octets>, Memory>
+    ensures { IfOk result (λ octets. octets ≡ pairs_of word.now) }
+{
     let mut bytes = Vec::with_capacity(alloc, word.len() / 2)?;
     let mut rest = word;
     'pairs: while let Some((pair, more)) = rest.split_first_chunk::<2>() {
