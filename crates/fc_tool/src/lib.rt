@@ -11,6 +11,8 @@ mod input;
 mod laws;
 mod line;
 mod make;
+#[cfg(test)]
+mod make_tests;
 mod node;
 mod peers;
 mod serve;
