@@ -1,6 +1,6 @@
 -- How `element` ends, from how its parts ended.
 use Rattle.std.proofs.Common.{◌≡◌, ◌≢◌, ◌<◌, ℕ, List, length, refl, sym, ap, ◌∙◌, inl, inr, [], codes, Option, Ok, Err}
-use Rattle.std.specs.Io.KnownBytes.{Keeps}
+use Rattle.std.specs.Io.KnownBytes.{Appends, Keeps}
 use Rattle.std.proofs.KnownBytes.{Appends-kept, Appends-nil}
 use Rattle.fc_base.specs.Content.{AppendsFront}
 use Rattle.fc_element.specs.ElementMachine.{report_of}
@@ -75,6 +75,11 @@ fault_meant (fault.Missing key) bytes told given = given
 fault_meant (fault.WrongKind key) bytes told given = given
 fault_meant (fault.Check f) bytes told given = given
 fault_meant fault.Memory bytes told given = absurd (told refl)
+
+-- why it means none was written
+pub refused_whole : (f : LibFault) (id ce turns : ℕ) (bytes : List ℕ) (held : Option Held) (text now : Option (List ℕ))
+    → library_of bytes ≡ Err f → Appends text now (refusal_text (codes "library") f) → DocumentEnds id ce turns bytes (Ok Refused) held held text now
+refused_whole f id ce turns bytes held text now is wrote = ([], refl, (f, is), refl, rw (ap refused_text (sym is)) at wrote)
 
 -- why it means none was not written whole
 pub refused_stops : (stop : Stop) (f : LibFault) (id ce turns : ℕ) (bytes : List ℕ) (held : Option Held) (text now : Option (List ℕ))

@@ -7,6 +7,7 @@ pub mod Ending
 pub mod Hearing
 pub mod Judged
 pub mod Looking
+pub mod Making
 pub mod OpenPeers
 pub mod Outcomes
 pub mod Pieces

@@ -8,7 +8,7 @@ use Rattle.fc_tool.specs.ElementRun.{ElementEnds, IsOutcome, LookEnds, MeansLibr
 use Rattle.fc_tool.proofs.Verdicts.{all_read, front_read}
 
 -- an input that is read whole is read whole once
-read_twice : (limit : ℕ) (bytes one two : List ℕ) (l k : Option (List ℕ)) → LookEnds limit (Ok look.Whole) one (Some bytes) l → LookEnds limit (Ok look.Whole) two (Some bytes) k → one ≡ two
+pub read_twice : (limit : ℕ) (bytes one two : List ℕ) (l k : Option (List ℕ)) → LookEnds limit (Ok look.Whole) one (Some bytes) l → LookEnds limit (Ok look.Whole) two (Some bytes) k → one ≡ two
 read_twice limit bytes one two l k (consumed, end, le) (read, finish, short) = sym (all_read bytes one l consumed end) ∙ all_read bytes two k read finish
 
 -- a document means a library or none
@@ -19,7 +19,7 @@ library_or_none : (limit : ℕ) (bytes one two : List ℕ) (l k : Option (List �
     → MeansLibrary one → MeansNone two → ⊥
 library_or_none limit bytes one two l k read other means none = either_means two (subst MeansLibrary (read_twice limit bytes one two l k read other) means) none
 
-whole_long : (limit : ℕ) (bytes one two : List ℕ) (l k : Option (List ℕ)) → LookEnds limit (Ok look.Whole) one (Some bytes) l → LookEnds limit (Ok look.TooLong) two (Some bytes) k → ⊥
+pub whole_long : (limit : ℕ) (bytes one two : List ℕ) (l k : Option (List ℕ)) → LookEnds limit (Ok look.Whole) one (Some bytes) l → LookEnds limit (Ok look.TooLong) two (Some bytes) k → ⊥
 whole_long limit bytes one two l k (consumed, end, le) (consumes, long) =
     let same = all_read bytes one l consumed end in
     let (more, split) = front_read bytes two k consumes in

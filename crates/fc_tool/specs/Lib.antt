@@ -1,6 +1,7 @@
 pub mod Acting
 pub mod ElementNode
 pub mod ElementRun
+pub mod Make
 pub mod Nexts
 pub mod Pieces
 pub mod Places

@@ -5,15 +5,18 @@ ghost use Rattle.fc_base.specs.Content.{IsFlushed};
 ghost use Rattle.fc_words.specs.Commands.{command_of};
 ghost use Rattle.fc_words.specs.declared.commands.Command.TheVariants as meant;
 ghost use Rattle.fc_tool.specs.declared.element.ElementEnd.{ElementEnd};
+ghost use Rattle.fc_tool.specs.declared.make.Made.{Made};
 ghost use Rattle.fc_tool.specs.declared.show.Shown.{Shown};
 ghost use Rattle.fc_tool.specs.declared.stops.Stop.{Stop};
 ghost use Rattle.fc_tool.specs.ElementRun.{ElementEnds, element_status};
+ghost use Rattle.fc_tool.specs.Make.{MakeEnds, make_status};
 ghost use Rattle.fc_tool.specs.Run.{UsageEnds, usage_status};
 ghost use Rattle.fc_tool.specs.Show.{ShowEnds, status_of};
 ghost use Rattle.fc_tool.specs.Stops.{FlushedAt, SinkCount};
 
 use crate::element::{ElementEnd, element};
 use crate::input::LIMIT;
+use crate::make::{Made, make};
 use crate::show::{Shown, show};
 use crate::status::{
     DONE, HUB_FAULT, NO_COMMAND, NO_MEMORY, NO_MESSAGE, READ_FAULT, REFUSED, TOO_LONG, TURNS,
@@ -43,6 +46,10 @@ pub fn run<S: Source, K: Sink, H: Hub>(
     ensures show { command_of (map string_bytes words.now) ≡ Some meant.Show → (how : Result Shown Stop) × (result ≡ status_of how)
         × ShowEnds LIMIT how (S.left input.old) (S.left input.new) (K.written out.old) (K.written out.new) }
 
+    // The same for `make`.
+    ensures make { command_of (map string_bytes words.now) ≡ Some meant.Make → (how : Result Made Stop) × (result ≡ make_status how)
+        × MakeEnds LIMIT how (S.left input.old) (S.left input.new) (K.written out.old) (K.written out.new) }
+
     // What was read, done on the hub and written, and the status, for `element`.
     ensures element { (fe ce : ℕ) (address : List ℕ) (connections turns : ℕ)
         → command_of (map string_bytes words.now) ≡ Some (meant.Element fe ce address connections turns)
@@ -65,6 +72,9 @@ pub fn run<S: Source, K: Sink, H: Hub>(
     ensures complete { command_of (map string_bytes words.now) ≡ Some meant.Show
         → (Rose (S.faults input.old) (S.faults input.new) → ⊥) → (Rose (K.faults out.old) (K.faults out.new) → ⊥)
         → (result ≡ DONE) ⊎ ((result ≡ NO_MESSAGE) ⊎ ((result ≡ TOO_LONG) ⊎ (result ≡ NO_MEMORY))) }
+    ensures make_complete { command_of (map string_bytes words.now) ≡ Some meant.Make
+        → (Rose (S.faults input.old) (S.faults input.new) → ⊥) → (Rose (K.faults out.old) (K.faults out.new) → ⊥)
+        → (result ≡ DONE) ⊎ ((result ≡ REFUSED) ⊎ ((result ≡ TOO_LONG) ⊎ (result ≡ NO_MEMORY))) }
     ensures element_complete { (fe ce : ℕ) (address : List ℕ) (connections turns : ℕ)
         → command_of (map string_bytes words.now) ≡ Some (meant.Element fe ce address connections turns)
         → (Rose (S.faults input.old) (S.faults input.new) → ⊥) → (Rose (K.faults out.old) (K.faults out.new) → ⊥)
@@ -82,6 +92,7 @@ pub fn run<S: Source, K: Sink, H: Hub>(
     };
     match meant {
         Command::Show => show_status(show(alloc, input, out)),
+        Command::Make => make_status(make(alloc, input, out)),
         Command::Element { fe, ce, turns, .. } => {
             element_status(element(alloc, fe, ce, turns, input, out, hub))
         }
@@ -115,6 +126,19 @@ fn show_status(how: Result<Shown, Stop>) -> u8
         Ok(Shown::ReadFault) => READ_FAULT,
         Ok(Shown::Refused) => NO_MESSAGE,
         Ok(Shown::TooLong) => TOO_LONG,
+        Err(Stop::WriteFault) => WRITE_FAULT,
+        Err(Stop::NoMemory) => NO_MEMORY,
+    }
+}
+
+fn make_status(how: Result<Made, Stop>) -> u8
+    ensures { result ≡ make_status how }
+{
+    match how {
+        Ok(Made::Done) => DONE,
+        Ok(Made::ReadFault) => READ_FAULT,
+        Ok(Made::Refused) => REFUSED,
+        Ok(Made::TooLong) => TOO_LONG,
         Err(Stop::WriteFault) => WRITE_FAULT,
         Err(Stop::NoMemory) => NO_MEMORY,
     }

@@ -7,12 +7,14 @@ ghost use Rattle.fc_msg.specs.Faults.{fault_of};
 ghost use Rattle.fc_msg.specs.Messages.{Spells};
 ghost use Rattle.fc_msg.specs.declared.fault.Refusal.{Refusal};
 ghost use Rattle.fc_msg.specs.declared.message.Message.{Message};
+ghost use Rattle.fc_tool.specs.declared.make.Made.{Made};
 ghost use Rattle.fc_tool.specs.declared.show.Shown.{Shown};
 ghost use Rattle.fc_hub.specs.Hubs.{Held};
 ghost use Rattle.fc_hub.specs.declared.event.HubEvent.{HubEvent};
 ghost use Rattle.fc_hub.specs.declared.event.HubEvent.TheVariants.{Bytes};
 ghost use Rattle.fc_tool.specs.ElementRun.{ElementEnds, IsOutcome};
 ghost use Rattle.fc_tool.specs.ElementNode.{NodeState, first_node, frames, node_after, node_step, rest};
+ghost use Rattle.fc_tool.specs.Make.{IsTold, MakeEnds};
 ghost use Rattle.fc_tool.specs.Pieces.{AreAlike, MakeTheSame};
 ghost use Rattle.fc_tool.specs.Places.{AreDistinct};
 ghost use Rattle.fc_tool.specs.Show.{AreMessages, IsVerdict, ShowEnds, text_of};
@@ -33,6 +35,13 @@ pub fn text_is_unique()
 pub fn input_ends_once()
     ensures { (e f : Shown) (limit : ℕ) (bytes : List ℕ) (l k o p n m : Option (List ℕ)) → IsVerdict e → IsVerdict f
         → ShowEnds limit (Ok e) (Some bytes) l o n → ShowEnds limit (Ok f) (Some bytes) k p m → e ≡ f }
+{}
+
+/// A known input has one ending of `make` of those that tell what it is: it is the text of messages, it is the text of none,
+/// or it is too long.
+pub fn make_ends_once()
+    ensures { (e f : Made) (limit : ℕ) (bytes : List ℕ) (l k o p n m : Option (List ℕ)) → IsTold e → IsTold f
+        → MakeEnds limit (Ok e) (Some bytes) l o n → MakeEnds limit (Ok f) (Some bytes) k p m → e ≡ f }
 {}
 
 /// A known input and a known hub have one ending of `element` of those in which nothing failed: the hub has no more

@@ -10,6 +10,9 @@ mod giving;
 mod input;
 mod laws;
 mod line;
+mod make;
+#[cfg(test)]
+mod make_tests;
 mod node;
 mod peers;
 mod serve;
@@ -22,8 +25,9 @@ mod tests;
 pub use command::run;
 pub use element::ElementEnd;
 pub use laws::{
-    bytes_may_be_cut, element_ends_once, frame_is_judged_once, input_ends_once,
+    bytes_may_be_cut, element_ends_once, frame_is_judged_once, input_ends_once, make_ends_once,
     node_takes_the_frames, peers_are_distinct, text_is_unique,
 };
+pub use make::Made;
 pub use show::Shown;
 pub use stops::Stop;

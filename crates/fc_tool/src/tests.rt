@@ -8,13 +8,13 @@ use fc_hub::{Act, HubEvent, MemHub, SureHub};
 use std::alloc::Global;
 use std::test::Fail;
 
-const BEAT: [u8; 24] = [
+pub const BEAT: [u8; 24] = [
     0x10, 0x0f, 0, 6, 0x40, 0, 0, 1, 0, 0, 0, 2, 0, 0, 0, 0, 0, 0, 0, 0, 0, 0, 0, 0,
 ];
 
-const LINE: &str = "Heartbeat from=40000001 to=00000002 corr=0000000000000000 flags=00000000\n";
+pub const LINE: &str = "Heartbeat from=40000001 to=00000002 corr=0000000000000000 flags=00000000\n";
 
-fn words(alloc: Global, line: &str) -> Result<Vec<String>, Fail> {
+pub fn words(alloc: Global, line: &str) -> Result<Vec<String>, Fail> {
     let mut words = Vec::new(alloc);
     for word in line.split(' ') {
         words.push(String::from_str(alloc, word)?)?;
@@ -30,7 +30,7 @@ fn beats(alloc: Global, count: usize) -> Result<Vec<u8>, Fail> {
     Ok(bytes)
 }
 
-fn lines(alloc: Global, count: usize, last: &str) -> Result<String, Fail> {
+pub fn lines(alloc: Global, count: usize, last: &str) -> Result<String, Fail> {
     let mut text = String::new(alloc);
     for _ in 0..count {
         text.push_str(LINE)?;
@@ -40,7 +40,7 @@ fn lines(alloc: Global, count: usize, last: &str) -> Result<String, Fail> {
 }
 
 // Runs the program over a hub without events.
-fn run_without_hub<S: Source, K: Sink>(
+pub fn run_without_hub<S: Source, K: Sink>(
     alloc: Global,
     words: &[String],
     input: &mut S,
@@ -260,9 +260,9 @@ fn each_call_of_the_source_fails_in_turn(rt: HostRuntime) -> Result<(), Fail> {
 
 // So many bytes of heartbeats, one after the other, which nobody stores.
 #[derive(Drop)]
-struct Endless {
-    left: usize,
-    at: usize,
+pub struct Endless {
+    pub left: usize,
+    pub at: usize,
 }
 
 impl Source for Endless {

@@ -3,10 +3,10 @@ use Rattle.std.proofs.Common.{length, ◌≡◌, ◌≢◌, ◌↔◌, ℕ, Bool
 use Rattle.std.specs.Str.{bytes_eq, str_to_ascii_uppercase}
 use Rattle.std.proofs.lemmas.Option.{same_Some}
 use Rattle.std.proofs.lemmas.Slice.Eq.{bytes_eq-Decides}
-use Rattle.fc_words.specs.Commands.{◌>>=◌, IsElement, are_plain, command_of, element, element_of, is_dashed, named_first, nonempty, show}
+use Rattle.fc_words.specs.Commands.{◌>>=◌, IsElement, alone, are_plain, command_of, element, element_of, is_dashed, named_first, nonempty}
 use Rattle.fc_words.specs.Numbers.{ce_of, decimal_up_to}
 use Rattle.fc_words.specs.declared.commands.Command.{Command}
-use Rattle.fc_words.specs.declared.commands.Command.TheVariants.{Show, Element}
+use Rattle.fc_words.specs.declared.commands.Command.TheVariants.{Show, Make, Element}
 use Rattle.fc_words.proofs.Decimals.{decimal_sound, decimal_complete, plain_decimal}
 use Rattle.fc_words.proofs.Hexadecimals.{ce_sound, ce_complete, ce_digits, not_dashed}
 use Rattle.fc_words.proofs.Straight.{plain_word}
@@ -88,16 +88,31 @@ no_element (a ∷ b ∷ c ∷ []) other = refl
 no_element (a ∷ b ∷ c ∷ d ∷ []) other = refl
 no_element (a ∷ b ∷ c ∷ d ∷ f ∷ y ∷ ys) other = refl
 
-show_is : (rest : List (List ℕ)) (x : Command) → show rest ≡ Some x → (rest ≡ []) × (x ≡ Show)
-show_is [] x e = (refl, sym (same_Some _ _ e))
-show_is (w ∷ ws) x e = cc
+alone_is : (rest : List (List ℕ)) (command x : Command) → alone command rest ≡ Some x → (rest ≡ []) × (x ≡ command)
+alone_is [] command x e = (refl, sym (same_Some _ _ e))
+alone_is (w ∷ ws) command x e = cc
 
 -- the command that a name has
-by_name : {P : Type 0} (s e : Bool) (rest : List (List ℕ)) (x : Command) → (if s then show rest else if e then element rest else None) ≡ Some x
-    → (s ≡ true → show rest ≡ Some x → P) → (e ≡ true → element rest ≡ Some x → P) → P
-by_name true e rest x h shows elements = shows refl h
-by_name false true rest x h shows elements = elements refl h
-by_name false false rest x h shows elements = cc
+by_name : {P : Type 0} (s m e : Bool) (rest : List (List ℕ)) (x : Command)
+    → (if s then alone Show rest else if m then alone Make rest else if e then element rest else None) ≡ Some x
+    → (s ≡ true → alone Show rest ≡ Some x → P) → (m ≡ true → alone Make rest ≡ Some x → P) → (e ≡ true → element rest ≡ Some x → P) → P
+by_name true m e rest x h shows makes elements = shows refl h
+by_name false true e rest x h shows makes elements = makes refl h
+by_name false false true rest x h shows makes elements = elements refl h
+by_name false false false rest x h shows makes elements = cc
+
+-- the commands that stand alone are told apart
+shown_is_made : Show ≡ Make → ⊥
+shown_is_made h = cc
+
+made_is_shown : Make ≡ Show → ⊥
+made_is_shown h = cc
+
+shown_is_element : {f c n t : ℕ} {a : List ℕ} → Show ≡ Element f c a n t → ⊥
+shown_is_element h = cc
+
+made_is_element : {f c n t : ℕ} {a : List ℕ} → Make ≡ Element f c a n t → ⊥
+made_is_element h = cc
 
 meant : (words : List (List ℕ)) (x : Command) → command_of words ≡ Some x → (are_plain words ≡ true) × (named_first words ≡ Some x)
 meant words x e = by_plain (are_plain words) e
@@ -109,25 +124,33 @@ meant words x e = by_plain (are_plain words) e
 show_sound : (words : List (List ℕ)) → named_first words ≡ Some Show → words ≡ codes "show" ∷ []
 show_sound [] e = cc
 show_sound (name ∷ rest) e =
-    by_name (bytes_eq name (codes "show")) (bytes_eq name (codes "element")) rest Show e
-    (λ test h. let (none, _) = show_is rest Show h in rw ((bytes_eq-Decides name (codes "show")).0 test, none) refl)
-    (λ test h. let five = five_of rest Show h in absurd (show_is_not five.values.is))
-  where
-    show_is_not : {f c n t : ℕ} {a : List ℕ} → Show ≡ Element f c a n t → ⊥
-    show_is_not h = cc
+    by_name (bytes_eq name (codes "show")) (bytes_eq name (codes "make")) (bytes_eq name (codes "element")) rest Show e
+    (λ test h. let (none, _) = alone_is rest Show Show h in rw ((bytes_eq-Decides name (codes "show")).0 test, none) refl)
+    (λ test h. absurd (shown_is_made (alone_is rest Make Show h).1))
+    (λ test h. absurd (shown_is_element (five_of rest Show h).values.is))
+
+make_sound : (words : List (List ℕ)) → named_first words ≡ Some Make → words ≡ codes "make" ∷ []
+make_sound [] e = cc
+make_sound (name ∷ rest) e =
+    by_name (bytes_eq name (codes "show")) (bytes_eq name (codes "make")) (bytes_eq name (codes "element")) rest Make e
+    (λ test h. absurd (made_is_shown (alone_is rest Show Make h).1))
+    (λ test h. let (none, _) = alone_is rest Make Make h in rw ((bytes_eq-Decides name (codes "make")).0 test, none) refl)
+    (λ test h. absurd (made_is_element (five_of rest Make h).values.is))
 
 pub words_of_show : (words : List (List ℕ)) → command_of words ≡ Some Show ↔ words ≡ codes "show" ∷ []
 words_of_show words = (λ e. show_sound words (meant words Show e).1, λ e. ap command_of e)
 
+pub words_of_make : (words : List (List ℕ)) → command_of words ≡ Some Make ↔ words ≡ codes "make" ∷ []
+words_of_make words = (λ e. make_sound words (meant words Make e).1, λ e. ap command_of e)
+
 element_sound : (words : List (List ℕ)) (fe ce : ℕ) (address : List ℕ) (connections turns : ℕ) → are_plain words ≡ true → named_first words ≡ Some (Element fe ce address connections turns) → IsElement words fe ce address connections turns
 element_sound [] fe ce address connections turns plain e = cc
 element_sound (name ∷ rest) fe ce address connections turns plain e =
-    by_name (bytes_eq name (codes "show")) (bytes_eq name (codes "element")) rest (Element fe ce address connections turns) e (λ test h. absurd (is_no_show (show_is rest _ h).1))
+    by_name (bytes_eq name (codes "show")) (bytes_eq name (codes "make")) (bytes_eq name (codes "element")) rest (Element fe ce address connections turns) e
+    (λ test h. absurd (shown_is_element (sym (alone_is rest Show _ h).1)))
+    (λ test h. absurd (made_is_element (sym (alone_is rest Make _ h).1)))
     (λ test h. from_five ((bytes_eq-Decides name (codes "element")).0 test) (five_of rest _ h))
   where
-    is_no_show : Element fe ce address connections turns ≡ Show → ⊥
-    is_no_show h = cc
-
     from_five : name ≡ codes "element" → Five rest (Element fe ce address connections turns) → IsElement (name ∷ rest) fe ce address connections turns
     from_five is_name five =
         let v = five.values in

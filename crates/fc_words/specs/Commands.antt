@@ -6,7 +6,7 @@ use Rattle.fc_base.specs.Hex.{hex}
 use Rattle.fc_base.specs.Ids.{IsFe, IsCe}
 use Rattle.fc_words.specs.Numbers.{decimal_up_to, ce_of}
 use Rattle.fc_words.specs.declared.commands.Command.{Command}
-use Rattle.fc_words.specs.declared.commands.Command.TheVariants.{Show, Element}
+use Rattle.fc_words.specs.declared.commands.Command.TheVariants.{Show, Make, Element}
 use Rattle.fc_words.specs.declared.commands.WordFault.{WordFault}
 use Rattle.fc_words.specs.declared.commands.WordFault.TheVariants.{NoCommand, Memory}
 
@@ -39,10 +39,10 @@ abbrev pub nonempty : List ℕ → Option (List ℕ)
 nonempty [] = None
 nonempty (b ∷ bs) = Some (b ∷ bs)
 
--- `show` stands alone
-abbrev pub show : List (List ℕ) → Option Command
-show [] = Some Show
-show _ = None
+-- a command that stands alone
+abbrev pub alone : Command → List (List ℕ) → Option Command
+alone command [] = Some command
+alone command _ = None
 
 -- The values of `element`: FE is a forwarding element's ID in decimal, CE a control element's ID in hexadecimal, ADDRESS any
 -- text but the empty one, CONNECTIONS and TURNS are counts from 1 in decimal.
@@ -63,7 +63,8 @@ element _ = None
 -- the command of a name, with the words after it
 abbrev pub named : List ℕ → List (List ℕ) → Option Command
 named name words =
-    if bytes_eq name (codes "show") then show words
+    if bytes_eq name (codes "show") then alone Show words
+    else if bytes_eq name (codes "make") then alone Make words
     else if bytes_eq name (codes "element") then element words
     else None
 

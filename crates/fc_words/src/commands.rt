@@ -9,6 +9,8 @@ use std::alloc::AllocError;
 pub enum Command {
     /// Writes each message that comes in as text.
     Show,
+    /// Writes each message of the text that comes in as bytes.
+    Make,
     /// Runs a forwarding element.
     Element {
         /// The element's own ID.

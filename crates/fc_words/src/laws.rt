@@ -5,7 +5,7 @@ ghost use Rattle.fc_base.specs.Hex.{hex};
 ghost use Rattle.fc_base.specs.Ids.{IsCe};
 ghost use Rattle.fc_words.specs.Commands.{IsElement, command_of};
 ghost use Rattle.fc_words.specs.Numbers.{decimal_up_to, ce_of};
-ghost use Rattle.fc_words.specs.declared.commands.Command.TheVariants.{Show, Element};
+ghost use Rattle.fc_words.specs.declared.commands.Command.TheVariants.{Show, Make, Element};
 
 /// A word spells a number in decimal exactly where it is what is written for that number, and the number is in its range.
 pub fn decimal_words()
@@ -22,6 +22,11 @@ pub fn controller_words()
 /// The one word `show` means `show`, and no other words do.
 pub fn words_of_show()
     ensures { (words : List (List ℕ)) → command_of words ≡ Some Show ↔ words ≡ codes "show" ∷ [] }
+{}
+
+/// The one word `make` means `make`, and no other words do.
+pub fn words_of_make()
+    ensures { (words : List (List ℕ)) → command_of words ≡ Some Make ↔ words ≡ codes "make" ∷ [] }
 {}
 
 /// Words mean `element` with some values exactly where they are its name and what is written for these values.

@@ -11,5 +11,5 @@ mod tests;
 mod values;
 
 pub use commands::{Command, WordFault};
-pub use laws::{controller_words, decimal_words, words_of_element, words_of_show};
+pub use laws::{controller_words, decimal_words, words_of_element, words_of_make, words_of_show};
 pub use reading::command;

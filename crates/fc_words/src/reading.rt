@@ -8,8 +8,8 @@ use crate::commands::{Command, WordFault};
 use crate::element::element;
 use std::alloc::Global;
 
-/// The command that the words of a command line mean: `show`, or `element FE CE ADDRESS CONNECTIONS TURNS`. A word that
-/// begins with `-` makes the words no command.
+/// The command that the words of a command line mean: `show`, `make`, or `element FE CE ADDRESS CONNECTIONS TURNS`. A word
+/// that begins with `-` makes the words no command.
 pub fn command(alloc: Global, words: &[String]) -> Result<Command, WordFault>
     ensures exact { Gives result (spec.command_of (map string_bytes words.now)) }
 {
@@ -49,7 +49,9 @@ fn named(alloc: Global, name: &str, words: &[String]) -> Result<Command, WordFau
     ensures { Gives result (spec.named name.now (map string_bytes words.now)) }
 {
     if name == "show" {
-        show(words)
+        alone(Command::Show, words)
+    } else if name == "make" {
+        alone(Command::Make, words)
     } else if name == "element" {
         element(alloc, words)
     } else {
@@ -57,11 +59,12 @@ fn named(alloc: Global, name: &str, words: &[String]) -> Result<Command, WordFau
     }
 }
 
-fn show(words: &[String]) -> Result<Command, WordFault>
-    ensures { Gives result (spec.show (map string_bytes words.now)) }
+// A command that takes no words after its name.
+fn alone(command: Command, words: &[String]) -> Result<Command, WordFault>
+    ensures { Gives result (spec.alone command (map string_bytes words.now)) }
 {
     match words {
-        [] => Ok(Command::Show),
+        [] => Ok(command),
         _ => Err(WordFault::NoCommand),
     }
 }

@@ -14,7 +14,7 @@ fn words(alloc: Global, line: &str) -> Result<Vec<String>, Fail> {
 // The values of `element`: the two IDs, the two counts and the address.
 fn values(given: &Command) -> Option<([u32; 4], &str)> {
     match given {
-        Command::Show => None,
+        Command::Show | Command::Make => None,
         Command::Element {
             fe,
             ce,
@@ -31,6 +31,9 @@ fn commands_have_their_values(rt: HostRuntime) -> Result<(), Fail> {
     let given = words(alloc, "show")?;
     let meant = command(alloc, given.as_slice()).ok().ok_or("show")?;
     assert!(rt; matches!(meant, Command::Show));
+    let given = words(alloc, "make")?;
+    let meant = command(alloc, given.as_slice()).ok().ok_or("make")?;
+    assert!(rt; matches!(meant, Command::Make));
     for (line, numbers, address) in [
         (
             "element 7 4000000A 127.0.0.1:6704 1 200",
@@ -61,6 +64,9 @@ fn other_words_are_no_command(rt: HostRuntime) -> Result<(), Fail> {
         "",
         "Show",
         "show more",
+        "make more",
+        "make ",
+        "MAKE",
         "show ",
         "--help",
         "show --help",

@@ -1,5 +1,5 @@
 use Rattle.std.proofs.Common.{rules, refl, inl}
-use Rattle.fc_tool.proofs.Ending.{fault_meant, refused_stops}
+use Rattle.fc_tool.proofs.Ending.{fault_meant, refused_stops, refused_whole}
 use Rattle.fc_tool.proofs.element.declared_element.Goals as goal
 
 pub returns : goal.returns
@@ -8,4 +8,12 @@ returns g c = record {
   unflushed = c.in-Err-put_refusal.ensures.unflushed;
   hub = inl refl;
   sink = c.in-Err-put_refusal.ensures.count;
+}
+
+pub returns-in-Ok-put_refusal : goal.returns-in-Ok-put_refusal
+returns-in-Ok-put_refusal g c = record {
+  ends = refused_whole c.in-Err.fault c.args.fe c.args.ce c.args.turns _ _ _ _ (fault_meant c.in-Err.fault c.args.document.now (search rules) c.in-Err.ensures.exact) c.in-Ok-put_refusal.ensures.ok;
+  unflushed = c.in-Ok-put_refusal.ensures.unflushed;
+  hub = refl;
+  sink = c.in-Ok-put_refusal.ensures.count;
 }

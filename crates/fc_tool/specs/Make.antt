@@ -1,0 +1,97 @@
+-- What `make` writes of the text that it read, by how it ends. This profile's own.
+use Rattle.std.specs.Prelude.{◌≡◌, ◌⊎◌, ◌≤◌, ℕ, List, [], ◌++◌, length, codes, decimal, Option, Result, Ok, Err, ⊤}
+use Rattle.std.specs.List.{flat_map}
+use Rattle.std.specs.Io.KnownBytes.{Appends, Consumes}
+use Rattle.fc_base.specs.Causes.{Rose}
+use Rattle.fc_base.specs.Content.{AppendsFront}
+use Rattle.fc_msg.specs.Messages.{canonical}
+use Rattle.fc_msg.specs.declared.message.Message.{Message}
+use Rattle.fc_text.specs.TextPlaces.{TextPlace}
+use Rattle.fc_text.specs.TextReading.{text_in}
+use Rattle.fc_tool.specs.declared.input.Look.{Look}
+use Rattle.fc_tool.specs.declared.input.Look.TheVariants as look
+use Rattle.fc_tool.specs.declared.make.Made.{Made}
+use Rattle.fc_tool.specs.declared.make.Made.TheVariants.{Done, ReadFault, Refused, TooLong}
+use Rattle.fc_tool.specs.declared.stops.Stop.{Stop}
+use Rattle.fc_tool.specs.declared.stops.Stop.TheVariants.{WriteFault, NoMemory}
+use Rattle.fc_tool.specs.ElementRun.{LookEnds}
+use Rattle.fc_tool.specs.Stops.{stop_status}
+
+-- the canonical bytes of the messages
+abbrev pub bytes_of : List Message → List ℕ
+bytes_of ms = flat_map canonical ms
+
+-- the line of a text that is refused at a place
+unfoldable pub text_refusal : TextPlace → List ℕ
+text_refusal at = codes "refused text " ++ (decimal at.line ++ (codes " " ++ (decimal at.column ++ codes "\n")))
+
+-- what was seen of the input where `make` ends so
+abbrev pub look_of : Made → Look
+look_of Done = look.Whole
+look_of ReadFault = look.ReadFault
+look_of Refused = look.Whole
+look_of TooLong = look.TooLong
+
+-- where `make` ends so, this is written of the bytes that were read
+abbrev pub Makes : Made → List ℕ → List ℕ → Type 0
+-- the bytes are the text of messages, whose canonical bytes are written
+Makes Done bytes written = (ms : List Message) × (text_in bytes ≡ Ok ms) × (written ≡ bytes_of ms)
+-- they are the text of none, and the place is written at which they fail first
+Makes Refused bytes written = (at : TextPlace) × (text_in bytes ≡ Err at) × (written ≡ text_refusal at)
+-- the input can't be read, or is too long
+Makes ReadFault bytes written = written ≡ []
+Makes TooLong bytes written = written ≡ []
+
+-- `make` came to an end over these bytes, of which this is to be written
+abbrev pub MakeWent : ℕ → Made → List ℕ → List ℕ → Option (List ℕ) → Option (List ℕ) → Type 0
+MakeWent limit end bytes written before left = LookEnds limit (Ok (look_of end)) bytes before left × Makes end bytes written
+
+-- it came to some end, and of what is to be written then a front was
+abbrev pub MakeCut : ℕ → Option (List ℕ) → Option (List ℕ) → Option (List ℕ) → Option (List ℕ) → Type 0
+MakeCut limit before left old new =
+    (end : Made) × (bytes : List ℕ) × (written : List ℕ) × MakeWent limit end bytes written before left × AppendsFront old new written
+
+-- How `make` ends: what was read of an input of which so many bytes are looked at, and what was written.
+abbrev pub MakeEnds : ℕ → Result Made Stop → Option (List ℕ) → Option (List ℕ) → Option (List ℕ) → Option (List ℕ) → Type 0
+-- all was written
+MakeEnds limit (Ok end) before left old new =
+    (bytes : List ℕ) × (written : List ℕ) × MakeWent limit end bytes written before left × Appends old new written
+-- the sink failed
+MakeEnds limit (Err WriteFault) before left old new = MakeCut limit before left old new
+-- memory lacked for what was to be written, or before anything was
+MakeEnds limit (Err NoMemory) before left old new =
+    MakeCut limit before left old new
+    ⊎ ((bytes : List ℕ) × Consumes before left bytes × (length bytes ≤ limit) × Appends old new [])
+
+-- the same of what was written alone, once the input was read whole
+abbrev pub TextCut : List ℕ → Option (List ℕ) → Option (List ℕ) → Type 0
+TextCut bytes old new =
+    (end : Made) × (written : List ℕ) × (look_of end ≡ look.Whole) × Makes end bytes written × AppendsFront old new written
+
+abbrev pub TextEnds : List ℕ → Result Made Stop → Option (List ℕ) → Option (List ℕ) → Type 0
+TextEnds bytes (Ok end) old new = (written : List ℕ) × (look_of end ≡ look.Whole) × Makes end bytes written × Appends old new written
+TextEnds bytes (Err WriteFault) old new = TextCut bytes old new
+TextEnds bytes (Err NoMemory) old new = TextCut bytes old new ⊎ Appends old new []
+
+-- the count of the source; the writing may stop after a read has failed
+abbrev pub MakeSource : Result Made Stop → ℕ → ℕ → Type 0
+MakeSource (Ok Done) before now = now ≡ before
+MakeSource (Ok ReadFault) before now = Rose before now
+MakeSource (Ok Refused) before now = now ≡ before
+MakeSource (Ok TooLong) before now = now ≡ before
+MakeSource (Err stop) before now = (now ≡ before) ⊎ Rose before now
+
+-- the endings that tell what the input is
+abbrev pub IsTold : Made → Type 0
+IsTold Done = ⊤
+IsTold Refused = ⊤
+IsTold TooLong = ⊤
+IsTold ReadFault = ⊥
+
+-- the status of each ending
+abbrev pub make_status : Result Made Stop → ℕ
+make_status (Ok Done) = 0
+make_status (Ok ReadFault) = 2
+make_status (Ok Refused) = 5
+make_status (Ok TooLong) = 12
+make_status (Err stop) = stop_status stop

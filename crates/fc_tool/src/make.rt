@@ -1,0 +1,161 @@
+// The command `make`.
+ghost use Rattle.std.specs.Prelude.{◌≡◌, ◌++◌, ℕ, List, OnOk, OnErr, IfOk, true, string_bytes};
+ghost use Rattle.std.specs.List.{AllByRecursion};
+ghost use Rattle.std.specs.Io.KnownBytes.{Appends};
+ghost use Rattle.fc_base.specs.Content.{AppendsFront};
+ghost use Rattle.fc_msg.specs.Messages.{canonical, message_fits};
+ghost use Rattle.fc_text.specs.TextPlaces.{place};
+ghost use Rattle.fc_tool.specs.Make.{MakeEnds, MakeSource, TextEnds, bytes_of, text_refusal};
+ghost use Rattle.fc_tool.specs.Stops.{FlushedAt, SinkCount};
+
+use crate::input::{LIMIT, Look, look_over};
+use crate::splitter::Splitter;
+use crate::stops::{Stop, finish, put};
+use fc_base::{Memory, Sink, Source, WriteFault};
+use fc_msg::{Message, encode};
+use fc_text::{TextFault, read_text};
+use std::alloc::Global;
+
+/// How `make` ended, where all was written.
+#[derive(Clone, Copy, Debug, PartialEq, Eq)]
+pub enum Made {
+    /// The input is the text of messages, and no more.
+    Done,
+    /// The input can't be read.
+    ReadFault,
+    /// The input is the text of no messages.
+    Refused,
+    /// The input is longer than is looked at.
+    TooLong,
+}
+
+// Bytes are written once there are so many of them, and the last ones at the end.
+const PIECE: usize = 65_536;
+
+/// Writes the canonical bytes of the messages of the text that comes in, or why it is the text of none, and flushes it.
+pub fn make<S: Source, K: Sink>(alloc: Global, input: &mut S, out: &mut K) -> Result<Made, Stop>
+    ensures ends { MakeEnds LIMIT result (S.left input.old) (S.left input.new) (K.written out.old) (K.written out.new) }
+    ensures flushed { FlushedAt result (K.written out.new) (K.flushed out.old) (K.flushed out.new) }
+    ensures source { MakeSource result (S.faults input.old) (S.faults input.new) }
+    ensures sink { SinkCount result (K.faults out.old) (K.faults out.new) }
+{
+    let made = match make_all(alloc, input, out) {
+        Ok(made) => made,
+        Err(stop) => return Err(stop),
+    };
+    match finish(out) {
+        Ok(()) => Ok(made),
+        Err(stop) => Err(stop),
+    }
+}
+
+// Reads the text whole, and writes what is made of it.
+fn make_all<S: Source, K: Sink>(alloc: Global, input: &mut S, out: &mut K) -> Result<Made, Stop>
+    ensures ends { MakeEnds LIMIT result (S.left input.old) (S.left input.new) (K.written out.old) (K.written out.new) }
+    ensures unflushed { K.flushed out.new ≡ K.flushed out.old }
+    ensures source { MakeSource result (S.faults input.old) (S.faults input.new) }
+    ensures sink { SinkCount result (K.faults out.old) (K.faults out.new) }
+{
+    let mut held = Splitter::new(alloc);
+    match look_over(input, &mut held) {
+        Ok(Look::Whole) => make_text(alloc, held.rest(), out),
+        Ok(Look::TooLong) => Ok(Made::TooLong),
+        Ok(Look::ReadFault) => Ok(Made::ReadFault),
+        Err(_) => Err(Stop::NoMemory),
+    }
+}
+
+// Writes the messages of a text, or why it has none.
+fn make_text<K: Sink>(alloc: Global, text: &[u8], out: &mut K) -> Result<Made, Stop>
+    ensures ends { TextEnds text.now result (K.written out.old) (K.written out.new) }
+    ensures unflushed { K.flushed out.new ≡ K.flushed out.old }
+    ensures sink { SinkCount result (K.faults out.old) (K.faults out.new) }
+{
+    match read_text(alloc, text) {
+        Ok(messages) => match put_messages(alloc, messages.as_slice(), out) {
+            Ok(()) => Ok(Made::Done),
+            Err(stop) => Err(stop),
+        },
+        Err(TextFault::At { line, column }) => match put_refusal(alloc, line, column, out) {
+            Ok(()) => Ok(Made::Refused),
+            Err(stop) => Err(stop),
+        },
+        Err(TextFault::Memory) => Err(Stop::NoMemory),
+    }
+}
+
+// Writes messages that can be encoded. After an `Err` a front of their bytes was written.
+fn put_messages<K: Sink>(alloc: Global, messages: &[Message], out: &mut K) -> Result<(), Stop>
+    requires { AllByRecursion (λ m. message_fits m ≡ true) messages.now }
+    ensures ok { OnOk result (Appends (K.written out.old) (K.written out.new) (bytes_of messages.now)) }
+    ensures err { OnErr result (AppendsFront (K.written out.old) (K.written out.new) (bytes_of messages.now)) }
+    ensures unflushed { K.flushed out.new ≡ K.flushed out.old }
+    ensures count { SinkCount result (K.faults out.old) (K.faults out.new) }
+{
+    let mut bytes = Vec::new(alloc);
+    'messages: for message in messages.iter() {
+        match push_message(message, &mut bytes) {
+            Ok(()) => {}
+            Err(_) => return Err(Stop::NoMemory),
+        }
+        match put_full(&mut bytes, out) {
+            Ok(()) => {}
+            Err(stop) => return Err(stop),
+        }
+    }
+    put(out, bytes.as_slice())
+}
+
+// Appends the canonical bytes of a message that can be encoded. After an `Err` nothing has changed.
+fn push_message(message: &Message, bytes: &mut Vec<u8>) -> Result<(), Memory>
+    requires { message_fits message.now ≡ true }
+    ensures ok { OnOk result (bytes.new.items ≡ bytes.old.items ++ canonical message.now) }
+    ensures err { OnErr result (bytes.new.items ≡ bytes.old.items) }
+{
+    match encode(message, bytes) {
+        Ok(()) => Ok(()),
+        Err(WriteFault::TooLong) => unreachable!(),
+        Err(WriteFault::Memory) => Err(Memory),
+    }
+}
+
+// Writes the bytes and clears them, where there are so many that they are to be written. After an `Err` a front of them was
+// written.
+fn put_full<K: Sink>(bytes: &mut Vec<u8>, out: &mut K) -> Result<(), Stop>
+    ensures ok { OnOk result ((sent : List ℕ) × (bytes.old.items ≡ sent ++ bytes.new.items) × Appends (K.written out.old) (K.written out.new) sent) }
+    ensures err { OnErr result (AppendsFront (K.written out.old) (K.written out.new) bytes.old.items) }
+    ensures unflushed { K.flushed out.new ≡ K.flushed out.old }
+    ensures count { SinkCount result (K.faults out.old) (K.faults out.new) }
+{
+    if bytes.len() < PIECE {
+        return Ok(());
+    }
+    match put(out, bytes.as_slice()) {
+        Ok(()) => {
+            bytes.clear();
+            Ok(())
+        }
+        Err(stop) => Err(stop),
+    }
+}
+
+// Writes where a text is refused. After an `Err` a front of that was written.
+fn put_refusal<K: Sink>(alloc: Global, line: usize, column: usize, out: &mut K) -> Result<(), Stop>
+    ensures ok { OnOk result (Appends (K.written out.old) (K.written out.new) (text_refusal (place line column))) }
+    ensures err { OnErr result (AppendsFront (K.written out.old) (K.written out.new) (text_refusal (place line column))) }
+    ensures unflushed { K.flushed out.new ≡ K.flushed out.old }
+    ensures count { SinkCount result (K.faults out.old) (K.faults out.new) }
+{
+    match refusal_text(alloc, line, column) {
+        Ok(text) => put(out, text.as_bytes()),
+        Err(_) => Err(Stop::NoMemory),
+    }
+}
+
+// The line of a text that is refused at a place.
+#[tactic(auto, unfolding(crate::specs::Make::text_refusal))]
+fn refusal_text(alloc: Global, line: usize, column: usize) -> Result<String, Memory>
+    ensures { IfOk result (λ text. string_bytes text ≡ text_refusal (place line column)) }
+{
+    Ok(format!(in alloc; "refused text {line} {column}\n")?)
+}
