@@ -11,4 +11,5 @@ pub mod SparseForms
 pub mod Written
 pub mod Numbers
 pub mod Opens
+pub mod Places
 pub mod Rising
