@@ -10,6 +10,7 @@ pub mod Sound
 pub mod SparseForms
 pub mod Written
 pub mod Numbers
+pub mod OneEntry
 pub mod Opens
 pub mod Places
 pub mod Rising

@@ -14,6 +14,7 @@ use Rattle.std.specs.BTreeMap.{insert_entry}
 use Rattle.fc_base.specs.declared.faults.OpFault.{OpFault}
 use Rattle.fc_base.specs.declared.faults.OpFault.TheVariants as faults
 use Rattle.fc_value.specs.Outcomes.{◌>>=◌, Fails, out_of_range}
+use Rattle.fc_value.proofs.OneEntry.{entry_is}
 use Rattle.fc_value.proofs.Conditions.{not_below_is}
 use Rattle.fc_value.specs.Numbers.{is_width, number_of}
 use Rattle.fc_value.specs.Reading.{Reader, taken, truth_in, ranged, number_in, fixed_in, text_of, octets_of, cut, unpadded, closed, held, each_in, group_in, has_subscript, entry_in, entries_by, entries_in, table_of, inside, inside_at}
@@ -159,9 +160,8 @@ inside_shrinks = ind-Ty (λ ty. Shrinks (inside ty)) (λ f. Shrinks (inside (fie
 
 -- An entry takes bytes.
 pub entry_shrinks : (one : Reader) → Shrinks one → (limit : ℕ) (es : List (ℕ × Value)) (bytes : List ℕ) (x : List (ℕ × Value) × List ℕ) → entry_in one limit es bytes ≡ Ok x → length x.1 < length bytes
-unfolding entry_in
 entry_shrinks one shrinks limit es bytes x e =
-    let a : (nat_lt (length bytes) 4 ≡ false) × (_ ≡ Ok x) = else_ok _ _ _ _ e in
+    let a : (nat_lt (length bytes) 4 ≡ false) × (_ ≡ Ok x) = else_ok _ _ _ _ (sym (entry_is one limit es bytes) ∙ e) in
     let b : (has_subscript es (u32_at bytes 0) ≡ false) × (_ ≡ Ok x) = else_ok _ _ _ _ a.1 in
     let c : (nat_le limit (length es) ≡ false) × ((one (drop 4 bytes) >>= λ y. Ok (insert_entry nat_cmp es (u32_at bytes 0) y.0, y.1)) ≡ Ok x) = else_ok _ _ _ _ b.1 in
     let q : (y : Value × List ℕ) × (one (drop 4 bytes) ≡ Ok y) × (Ok (insert_entry nat_cmp es (u32_at bytes 0) y.0, y.1) ≡ Ok x) =

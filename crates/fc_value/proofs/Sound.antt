@@ -22,6 +22,7 @@ use Rattle.fc_value.specs.Reading.{Reader, taken, truth_in, ranged, number_in, f
 use Rattle.fc_value.specs.FullForm.{IsTruth, IsBit, IsNumber, IsText, IsOctets, IsFixed, EachField, EachEntry, AreRising, AreJoined, IsTable, InFullData, InsideLayer, IsInside, FullLayer, IsFull}
 use Rattle.fc_value.specs.declared.value.Value.{Value}
 use Rattle.fc_value.specs.declared.value.Value.TheVariants as value
+use Rattle.fc_value.proofs.OneEntry.{entry_is}
 use Rattle.fc_value.proofs.Conditions.{both, neither, not_below_is}
 use Rattle.fc_value.proofs.Entries.{place}
 use Rattle.fc_value.proofs.Layers.{in_layer, inside_law}
@@ -184,9 +185,8 @@ held_took one Is bytes rest v kind fine e =
 entry_spelled : (one : Reader) (limit : ℕ) (old : List (ℕ × Value)) (bytes : List ℕ) (x : List (ℕ × Value) × List ℕ) → AreBytes bytes → entry_in one limit old bytes ≡ Ok x
     → (s : ℕ) × (v : Value) × (tail : List ℕ) × (bytes ≡ u32_bytes s ++ tail) × AreBytes tail × (one tail ≡ Ok (v, x.1)) × (has_subscript old s ≡ false) × (length old < limit)
     × (x.0 ≡ insert_entry nat_cmp old s v)
-unfolding entry_in
 entry_spelled one limit old bytes x fine e =
-    let a : (nat_lt (length bytes) 4 ≡ false) × (_ ≡ Ok x) = else_ok _ _ _ _ e in
+    let a : (nat_lt (length bytes) 4 ≡ false) × (_ ≡ Ok x) = else_ok _ _ _ _ (sym (entry_is one limit old bytes) ∙ e) in
     let b : (has_subscript old (u32_at bytes 0) ≡ false) × (_ ≡ Ok x) = else_ok _ _ _ _ a.1 in
     let c : (nat_le limit (length old) ≡ false) × ((one (drop 4 bytes) >>= λ y. Ok (insert_entry nat_cmp old (u32_at bytes 0) y.0, y.1)) ≡ Ok x) = else_ok _ _ _ _ b.1 in
     let q : (y : Value × List ℕ) × (one (drop 4 bytes) ≡ Ok y) × (Ok (insert_entry nat_cmp old (u32_at bytes 0) y.0, y.1) ≡ Ok x) =
