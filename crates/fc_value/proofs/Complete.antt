@@ -19,6 +19,7 @@ use Rattle.fc_value.specs.Reading.{Reader, taken, truth_in, ranged, number_in, f
 use Rattle.fc_value.specs.FullForm.{Forms, IsTruth, IsBit, IsNumber, IsText, IsOctets, IsFixed, EachField, EachEntry, AreRising, AreJoined, IsTable, InsideLayer, IsInside, FullLayer, IsFull}
 use Rattle.fc_value.specs.declared.value.Value.{Value}
 use Rattle.fc_value.specs.declared.value.Value.TheVariants as value
+use Rattle.fc_value.proofs.OneEntry.{entry_is}
 use Rattle.fc_value.proofs.Conditions.{then_is, else_is, not_below}
 use Rattle.fc_value.proofs.Entries.{placed, absent, old_rises, old_fewer}
 use Rattle.fc_value.proofs.Layers.{in_layer, inside_law}
@@ -135,11 +136,11 @@ held_read one v body padded front rest t e =
 -- an entry at the front
 entry_read : (one : Reader) (limit s : ℕ) (v : Value) (es : List (ℕ × Value)) (bytes rest : List ℕ) → has_subscript es s ≡ false → length es < limit → one bytes ≡ Ok (v, rest)
     → entry_in one limit es (u32_bytes s ++ bytes) ≡ Ok (insert_entry nat_cmp es s v, rest)
-unfolding entry_in
 entry_read one limit s v es bytes rest new few e =
     let all : List ℕ = u32_bytes s ++ bytes in
     let same : u32_at all 0 ≡ s = four_back s in
-    else_is (nat_lt (length all) 4) _ _ (not_below _ _ (omega arith))
+    entry_is one limit es all
+    ∙ else_is (nat_lt (length all) 4) _ _ (not_below _ _ (omega arith))
     ∙ else_is (has_subscript es (u32_at all 0)) _ _ (ap (has_subscript es) same ∙ new)
     ∙ else_is (nat_le limit (length es)) _ _ (above few)
     ∙ ap (λ r. r >>= put (u32_at all 0)) e ∙ ap (λ n. put n (v, rest)) same

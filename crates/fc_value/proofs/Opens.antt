@@ -17,6 +17,7 @@ use Rattle.fc_value.specs.Opening.{nearest, opening, opening_at, opening_step, o
 use Rattle.fc_value.specs.declared.value.Value.{Value}
 use Rattle.fc_value.specs.declared.value.Value.TheVariants as value
 use Rattle.fc_value.proofs.Conditions.{both}
+use Rattle.fc_value.proofs.Nesting.{no_depth, one_level}
 use Rattle.fc_types.proofs.Inside.{inside_law, inside_layer}
 use Rattle.std.proofs.lemmas.List.{length-replicate}
 use Rattle.std.proofs.lemmas.Int.{ints}
@@ -95,14 +96,6 @@ module _ (depth : ℕ) (opens : (ty : Ty) → nests depth ty ≡ true → throug
   layer_opens (Ty-F.Bytes n) deep own ranged = (replicate n 0, refl, zeros_bytes n, length-replicate n 0)
   layer_opens (Ty-F.Struct fields) deep own ranged = (map (λ f. opening (field_ty f)) fields, refl, fields_open fields deep ranged)
   layer_opens (Ty-F.Array entry limit keys) deep own ranged = ([], refl, record { rising = tt; few = omega arith; keyed = no_keys (fields_of entry) keys }, tt)
-
-no_depth : (ty : Ty) → nests zero ty ≡ true → ⊥
-unfolding nests
-no_depth ty e = cc
-
-one_level : (depth : ℕ) (ty : Ty) → nests (suc depth) ty ≡ true → nests_layer (nests depth) (out-Ty ty) ≡ true
-unfolding nests
-one_level depth ty e = e
 
 opens_in : (depth : ℕ) (ty : Ty) → nests depth ty ≡ true → throughout is_in_range ty ≡ true → FitsIn depth ty (opening ty)
 opens_in zero ty deep ranged = absurd (no_depth ty deep)

@@ -14,6 +14,7 @@ use Rattle.std.specs.BTreeMap.{insert_entry}
 use Rattle.fc_base.specs.declared.faults.OpFault.{OpFault}
 use Rattle.fc_base.specs.declared.faults.OpFault.TheVariants as faults
 use Rattle.fc_value.specs.Outcomes.{◌>>=◌, Fails, out_of_range}
+use Rattle.fc_value.proofs.OneEntry.{entry_is}
 use Rattle.fc_value.proofs.Conditions.{not_below_is}
 use Rattle.fc_value.specs.Numbers.{is_width, number_of}
 use Rattle.fc_value.specs.Reading.{Reader, taken, truth_in, ranged, number_in, fixed_in, text_of, octets_of, cut, unpadded, closed, held, each_in, group_in, has_subscript, entry_in, entries_by, entries_in, table_of, inside, inside_at}
@@ -157,17 +158,24 @@ inside_shrinks = ind-Ty (λ ty. Shrinks (inside ty)) (λ f. Shrinks (inside (fie
     (λ x y is. subst Shrinks (sym (inside_roll x)) (subst (λ l. Shrinks (in_layer l)) is (layer_shrinks y)))
     (λ x y is. subst (λ ty. Shrinks (inside ty)) (ap (λ (z : Field-F Ty Field). z.ty) is ∙ sym (ap (λ (z : Field-F Ty Field). z.ty) (out-roll-Field x))) y.ty.1)
 
--- An entry takes bytes.
-pub entry_shrinks : (one : Reader) → Shrinks one → (limit : ℕ) (es : List (ℕ × Value)) (bytes : List ℕ) (x : List (ℕ × Value) × List ℕ) → entry_in one limit es bytes ≡ Ok x → length x.1 < length bytes
-unfolding entry_in
-entry_shrinks one shrinks limit es bytes x e =
-    let a : (nat_lt (length bytes) 4 ≡ false) × (_ ≡ Ok x) = else_ok _ _ _ _ e in
+-- What was tested where an entry was read.
+pub entry_took : (one : Reader) (limit : ℕ) (es : List (ℕ × Value)) (bytes : List ℕ) (x : List (ℕ × Value) × List ℕ) → entry_in one limit es bytes ≡ Ok x
+    → (y : Value × List ℕ) × (nat_lt (length bytes) 4 ≡ false) × (has_subscript es (u32_at bytes 0) ≡ false) × (nat_le limit (length es) ≡ false) × (one (drop 4 bytes) ≡ Ok y)
+    × ((insert_entry nat_cmp es (u32_at bytes 0) y.0, y.1) ≡ x)
+entry_took one limit es bytes x e =
+    let a : (nat_lt (length bytes) 4 ≡ false) × (_ ≡ Ok x) = else_ok _ _ _ _ (sym (entry_is one limit es bytes) ∙ e) in
     let b : (has_subscript es (u32_at bytes 0) ≡ false) × (_ ≡ Ok x) = else_ok _ _ _ _ a.1 in
     let c : (nat_le limit (length es) ≡ false) × ((one (drop 4 bytes) >>= λ y. Ok (insert_entry nat_cmp es (u32_at bytes 0) y.0, y.1)) ≡ Ok x) = else_ok _ _ _ _ b.1 in
     let q : (y : Value × List ℕ) × (one (drop 4 bytes) ≡ Ok y) × (Ok (insert_entry nat_cmp es (u32_at bytes 0) y.0, y.1) ≡ Ok x) =
     bind_ok (one (drop 4 bytes)) (λ y. Ok (insert_entry nat_cmp es (u32_at bytes 0) y.0, y.1)) x c.1 in
-    let some : 4 ≤ length bytes = not_below_is _ _ a.0 in
-    omega (arith, some, shrinks (drop 4 bytes) q.0.1 q.0.0 q.1, length-drop 4 bytes, ap (λ (y : List (ℕ × Value) × List ℕ). length y.1) (ok_same (insert_entry nat_cmp es (u32_at bytes 0) q.0.0, q.0.1) x q.2))
+    (q.0, a.0, b.0, c.0, q.1, ok_same (insert_entry nat_cmp es (u32_at bytes 0) q.0.0, q.0.1) x q.2)
+
+-- An entry takes bytes.
+pub entry_shrinks : (one : Reader) → Shrinks one → (limit : ℕ) (es : List (ℕ × Value)) (bytes : List ℕ) (x : List (ℕ × Value) × List ℕ) → entry_in one limit es bytes ≡ Ok x → length x.1 < length bytes
+entry_shrinks one shrinks limit es bytes x e =
+    let t = entry_took one limit es bytes x e in
+    let some : 4 ≤ length bytes = not_below_is _ _ t.1 in
+    omega (arith, some, shrinks (drop 4 bytes) t.0.1 t.0.0 t.4, length-drop 4 bytes, ap (λ (y : List (ℕ × Value) × List ℕ). length y.1) t.5)
 
 bind_same : {A B : Type 0} (r : Result A ℕ) (f g : A → Result B ℕ) → ((x : A) → r ≡ Ok x → f x ≡ g x) → (r >>= f) ≡ (r >>= g)
 bind_same (Ok x) f g h = h x refl

@@ -25,7 +25,8 @@ use Rattle.fc_value.specs.declared.value.Value.TheVariants as value
 use Rattle.fc_value.proofs.Conditions.{both, neither, not_below_is}
 use Rattle.fc_value.proofs.Entries.{place}
 use Rattle.fc_value.proofs.Layers.{in_layer, inside_law}
-use Rattle.fc_value.proofs.Shrinking.{never, ok_same, bind_ok, else_ok, then_ok, cut_ok}
+use Rattle.fc_value.proofs.Nesting.{no_depth, one_level}
+use Rattle.fc_value.proofs.Shrinking.{never, ok_same, bind_ok, else_ok, then_ok, cut_ok, entry_took}
 
 -- bytes in bytes
 pub front_bytes : (xs ys : List ℕ) → AreBytes (xs ++ ys) → AreBytes xs
@@ -184,29 +185,23 @@ held_took one Is bytes rest v kind fine e =
 entry_spelled : (one : Reader) (limit : ℕ) (old : List (ℕ × Value)) (bytes : List ℕ) (x : List (ℕ × Value) × List ℕ) → AreBytes bytes → entry_in one limit old bytes ≡ Ok x
     → (s : ℕ) × (v : Value) × (tail : List ℕ) × (bytes ≡ u32_bytes s ++ tail) × AreBytes tail × (one tail ≡ Ok (v, x.1)) × (has_subscript old s ≡ false) × (length old < limit)
     × (x.0 ≡ insert_entry nat_cmp old s v)
-unfolding entry_in
 entry_spelled one limit old bytes x fine e =
-    let a : (nat_lt (length bytes) 4 ≡ false) × (_ ≡ Ok x) = else_ok _ _ _ _ e in
-    let b : (has_subscript old (u32_at bytes 0) ≡ false) × (_ ≡ Ok x) = else_ok _ _ _ _ a.1 in
-    let c : (nat_le limit (length old) ≡ false) × ((one (drop 4 bytes) >>= λ y. Ok (insert_entry nat_cmp old (u32_at bytes 0) y.0, y.1)) ≡ Ok x) = else_ok _ _ _ _ b.1 in
-    let q : (y : Value × List ℕ) × (one (drop 4 bytes) ≡ Ok y) × (Ok (insert_entry nat_cmp old (u32_at bytes 0) y.0, y.1) ≡ Ok x) =
-    bind_ok (one (drop 4 bytes)) (λ y. Ok (insert_entry nat_cmp old (u32_at bytes 0) y.0, y.1)) x c.1 in
-    let h = headed bytes (not_below_is _ _ a.0) in
+    let t = entry_took one limit old bytes x e in
+    let h = headed bytes (not_below_is _ _ t.1) in
     let is : bytes ≡ h.0 ∷ h.1 ∷ h.2 ∷ h.3 ∷ h.4 = h.5 in
     let ranges : AreBytes (h.0 ∷ h.1 ∷ h.2 ∷ h.3 ∷ h.4) = subst AreBytes is fine in
-    let same = ok_same (insert_entry nat_cmp old (u32_at bytes 0) q.0.0, q.0.1) x q.2 in
     let number : u32_at bytes 0 ≡ 2 ^ 24 * h.0 + 2 ^ 16 * h.1 + 2 ^ 8 * h.2 + h.3 = ap (λ l. u32_at l 0) is in
     let tail : drop 4 bytes ≡ h.4 = ap (drop 4) is in
-    let behind : one h.4 ≡ Ok (q.0.0, x.1) = ap one (sym tail) ∙ q.1 ∙ ap (λ (y : List ℕ). pair q.0.0 y) (ap (λ (y : List (ℕ × Value) × List ℕ). y.1) same) in (
+    let behind : one h.4 ≡ Ok (t.0.0, x.1) = ap one (sym tail) ∙ t.4 ∙ ap (λ (y : List ℕ). pair t.0.0 y) (ap (λ (y : List (ℕ × Value) × List ℕ). y.1) t.5) in (
       u32_at bytes 0,
-      q.0.0,
+      t.0.0,
       h.4,
       is ∙ four (u32_at bytes 0) h.0 h.1 h.2 h.3 h.4 number ranges.0 ranges.1.0 ranges.1.1.0 ranges.1.1.1.0,
       ranges.1.1.1.1,
       behind,
-      b.0,
-      fewer c.0,
-      sym (ap (λ (y : List (ℕ × Value) × List ℕ). y.0) same),
+      t.2,
+      fewer t.3,
+      sym (ap (λ (y : List (ℕ × Value) × List ℕ). y.0) t.5),
     )
   where
     pair : Value → List ℕ → Result (Value × List ℕ) ℕ
@@ -299,14 +294,6 @@ module _ (depth : ℕ) (took : (ty : Ty) (bytes rest : List ℕ) (v : Value) →
   layer_took (Ty-F.Array entry limit keys) bytes rest v deep fine e =
       held_took (table_of (inside entry) (fields_of entry) limit keys) (IsTable (IsInside depth) entry limit keys) bytes rest v
       (λ body w good h. table_is entry limit keys body w deep good h) fine e
-
-no_depth : (ty : Ty) → nests zero ty ≡ true → ⊥
-unfolding nests
-no_depth ty e = cc
-
-one_level : (depth : ℕ) (ty : Ty) → nests (suc depth) ty ≡ true → nests_layer (nests depth) (out-Ty ty) ≡ true
-unfolding nests
-one_level depth ty e = e
 
 inside_took : (depth : ℕ) (ty : Ty) (bytes rest : List ℕ) (v : Value) → nests depth ty ≡ true → AreBytes bytes → inside ty bytes ≡ Ok (v, rest) → Took (IsInside depth ty) v bytes rest
 inside_took zero ty bytes rest v deep fine e = absurd (no_depth ty deep)

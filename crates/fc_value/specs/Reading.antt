@@ -84,13 +84,17 @@ group_in readers bytes = each_in readers bytes >>= λ x. Ok (value.Group x.0, x.
 abbrev pub has_subscript : List (ℕ × Value) → ℕ → Bool
 has_subscript es subscript = is_some (lookup (is_at (nat_cmp subscript)) es)
 
--- the entries, by rising subscript, with the one at the front of the bytes, and what stands behind it
-unfoldable pub entry_in : Reader → ℕ → List (ℕ × Value) → List ℕ → Result (List (ℕ × Value) × List ℕ) ℕ
-entry_in one limit es bytes =
+-- the subscript at the front, which no entry may have and which may not be one too many, and what stands behind it
+abbrev pub subscript_in : ℕ → List (ℕ × Value) → List ℕ → Result (ℕ × List ℕ) ℕ
+subscript_in limit es bytes =
     if nat_lt (length bytes) 4 then Err invalid_tlv
     else (if has_subscript es (u32_at bytes 0) then Err invalid_tlv
     else (if nat_le limit (length es) then Err out_of_range
-    else one (drop 4 bytes) >>= (λ x. Ok (insert_entry nat_cmp es (u32_at bytes 0) x.0, x.1))))
+    else Ok (u32_at bytes 0, drop 4 bytes)))
+
+-- the entries, by rising subscript, with the one at the front of the bytes, and what stands behind it
+unfoldable pub entry_in : Reader → ℕ → List (ℕ × Value) → List ℕ → Result (List (ℕ × Value) × List ℕ) ℕ
+entry_in one limit es bytes = subscript_in limit es bytes >>= λ s. one s.1 >>= λ x. Ok (insert_entry nat_cmp es s.0 x.0, x.1)
 
 abbrev pub entries_by : Reader → ℕ → ℕ → List (ℕ × Value) → List ℕ → Result (List (ℕ × Value)) ℕ
 entries_by one limit fuel es [] = Ok es

@@ -1,10 +1,11 @@
-// Laws of the full form of values.
-ghost use Rattle.std.specs.Prelude.{◌≡◌, ◌≤◌, List, ℕ, ℤ, Ok, unsigned_abs};
+// Laws of the full form of values, and of the nodes in them.
+ghost use Rattle.std.specs.Prelude.{◌≡◌, ◌≤◌, ◌++◌, List, ℕ, ℤ, true, Ok, Some, None, option_map, unsigned_abs};
 ghost use Rattle.fc_types.specs.Sound.{IsSound};
 ghost use Rattle.fc_types.specs.declared.ty.Ty.{Ty};
 ghost use Rattle.fc_wire.specs.Bytes.{AreBytes};
 ghost use Rattle.fc_value.specs.Fits.{Fits};
 ghost use Rattle.fc_value.specs.FullForm.{InRange, IsFull};
+ghost use Rattle.fc_value.specs.Nodes.{are_apart, node_at, put_at};
 ghost use Rattle.fc_value.specs.Opening.{nearest, opening};
 ghost use Rattle.fc_value.specs.Reading.{full_in};
 ghost use Rattle.fc_value.specs.Writing.{full_bytes};
@@ -29,4 +30,13 @@ pub fn opening_values()
 pub fn written_values_are_read()
     ensures form { (ty : Ty) (v : Value) → IsSound ty → Fits ty v → IsFull ty v (full_bytes ty v) }
     ensures again { (ty : Ty) (v : Value) → IsSound ty → Fits ty v → full_in ty (full_bytes ty v) ≡ Ok v }
+{}
+
+/// What a node that is put leaves of a value: it stands at its places, with all that is in it; the nodes through which its
+/// places lead have it within them; each other place is as it was. Where a place is not there the value is as it was.
+pub fn other_places_stay()
+    ensures put { (v w c : Value) (places below : List ℕ) → node_at places v ≡ Some c → node_at (places ++ below) (put_at v places w) ≡ node_at below w }
+    ensures above { (v w : Value) (front places : List ℕ) → node_at front (put_at v (front ++ places) w) ≡ option_map (λ c. put_at c places w) (node_at front v) }
+    ensures other { (v w : Value) (places others : List ℕ) → are_apart places others ≡ true → node_at others (put_at v places w) ≡ node_at others v }
+    ensures nowhere { (v w : Value) (places : List ℕ) → node_at places v ≡ None → put_at v places w ≡ v }
 {}

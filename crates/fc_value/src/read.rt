@@ -5,7 +5,8 @@ ghost use Rattle.fc_value.specs.FullForm.{IsFull};
 ghost use Rattle.fc_value.specs.declared.value.Value.{Value as Valued};
 ghost use Rattle.fc_types.specs.Types.{fields_of as fields_in};
 ghost use Rattle.fc_value.specs.Outcomes.{Gives};
-ghost use Rattle.fc_value.specs.Reading.{full_in, inside, inside_at, each_in, group_in, held, table_of, entries_in, entry_in};
+ghost use Rattle.fc_value.specs.Reading as spec;
+ghost use Rattle.fc_value.specs.Reading.{subscript_in, full_in, inside, inside_at, each_in, group_in, held, table_of, entries_in, entry_in};
 
 use crate::Value;
 use crate::key::keys_differ;
@@ -48,12 +49,19 @@ pub fn read_whole(alloc: Global, ty: &Ty, bytes: &[u8]) -> Result<Value, OpFault
         } => read_table(alloc, entry.get(), *entries, keys.as_slice(), bytes),
         _ => {
             let (value, rest) = read_inside(alloc, ty, bytes)?;
-            if !rest.is_empty() {
-                return Err(OpFault::Refused(Code::INVALID_TLV));
-            }
-            Ok(value)
+            alone(value, rest)
         }
     }
+}
+
+// The value, behind which nothing may be left over.
+fn alone(value: Value, rest: &[u8]) -> Result<Value, OpFault>
+    ensures { Gives (λ v. v) result (spec.alone (value, rest.now)) }
+{
+    if !rest.is_empty() {
+        return Err(OpFault::Refused(Code::INVALID_TLV));
+    }
+    Ok(value)
 }
 
 // The value at the front of what a struct or an entry has, and what stands behind it.
@@ -180,6 +188,29 @@ fn read_entries(
     Ok(entries)
 }
 
+// The subscript of one entry more, and what stands behind it.
+fn read_subscript<'a>(
+    bytes: &'a [u8],
+    limit: u32,
+    entries: &BTreeMap<u32, Value>,
+) -> Result<(u32, &'a [u8]), OpFault>
+    ensures exact { Gives (λ x. (x.0, x.1.now)) result (subscript_in limit entries.now.entries bytes.now) }
+    ensures short { IfOk result (λ x. length x.1.now < length bytes.now) }
+{
+    if bytes.len() < 4 {
+        return Err(OpFault::Refused(Code::INVALID_TLV));
+    }
+    let subscript = read_u32(bytes, 0);
+    if entries.contains_key(&subscript) {
+        return Err(OpFault::Refused(Code::INVALID_TLV));
+    }
+    if entries.len() >= limit as usize {
+        return Err(OpFault::Refused(Code::VALUE_OUT_OF_RANGE));
+    }
+    let (_, behind) = bytes.split_at(4);
+    Ok((subscript, behind))
+}
+
 // One entry more, and what stands behind it.
 #[cycle(read)]
 #[tactic(auto, unfolding(crate::specs::Reading::entry_in))]
@@ -193,17 +224,7 @@ fn read_entry<'a>(
     ensures exact { Gives (λ rest. (entries.new.entries, rest.now)) result (entry_in (inside entry.now) limit entries.old.entries bytes.now) }
     ensures short { IfOk result (λ rest. length rest.now < length bytes.now) }
 {
-    if bytes.len() < 4 {
-        return Err(OpFault::Refused(Code::INVALID_TLV));
-    }
-    let subscript = read_u32(bytes, 0);
-    let (_, behind) = bytes.split_at(4);
-    if entries.contains_key(&subscript) {
-        return Err(OpFault::Refused(Code::INVALID_TLV));
-    }
-    if entries.len() >= limit as usize {
-        return Err(OpFault::Refused(Code::VALUE_OUT_OF_RANGE));
-    }
+    let (subscript, behind) = read_subscript(bytes, limit, entries)?;
     let (value, rest) = read_inside(alloc, entry, behind)?;
     entries.insert(subscript, value)?;
     Ok(rest)

@@ -1,0 +1,14 @@
+use Rattle.fc_value.proofs.Places.{node_above, node_apart, node_put, put_nowhere}
+use Rattle.fc_value.proofs.laws.other_places_stay.Goals as goal
+
+pub returns-clause-put : goal.returns-clause-put
+returns-clause-put c = λ v w d places below h. node_put places v w d h below
+
+pub returns-clause-above : goal.returns-clause-above
+returns-clause-above c = λ v w front places. node_above front v w places
+
+pub returns-clause-other : goal.returns-clause-other
+returns-clause-other c = λ v w places others h. node_apart places v w others h
+
+pub returns-clause-nowhere : goal.returns-clause-nowhere
+returns-clause-nowhere c = λ v w places h. put_nowhere places v w h
