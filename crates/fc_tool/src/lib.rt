@@ -11,8 +11,6 @@ mod input;
 mod laws;
 mod line;
 mod make;
-#[cfg(test)]
-mod make_tests;
 mod node;
 mod peers;
 mod serve;

@@ -9,10 +9,9 @@ ghost use Rattle.fc_tool.specs.Make.{MakeEnds, MakeSource, TextEnds, bytes_of, t
 ghost use Rattle.fc_tool.specs.Stops.{FlushedAt, SinkCount};
 
 use crate::input::{LIMIT, Look, look_over};
-use crate::splitter::Splitter;
 use crate::stops::{Stop, finish, put};
 use fc_base::{Memory, Sink, Source, WriteFault};
-use fc_msg::{Message, encode};
+use fc_msg::{Message, Splitter, encode};
 use fc_text::{TextFault, read_text};
 use std::alloc::Global;
 

@@ -2,6 +2,9 @@ ghost use Rattle.std.specs.Prelude.{◌≡◌, ℕ, None};
 ghost use Rattle.std.specs.List.{list_all};
 ghost use Rattle.fc_hub.specs.Hubs.{is_given};
 
+mod grammar;
+mod making;
+
 use crate::run;
 use fc_base::{MemSink, MemSource, Octets, Sink, Source, SureSink, SureSource, Trouble};
 use fc_hub::{Act, HubEvent, MemHub, SureHub};
@@ -13,6 +16,26 @@ pub const BEAT: [u8; 24] = [
 ];
 
 pub const LINE: &str = "Heartbeat from=40000001 to=00000002 corr=0000000000000000 flags=00000000\n";
+
+// The bytes of hexadecimal digits, between which spaces may stand.
+pub fn bytes_of(alloc: Global, digits: &str) -> Result<Vec<u8>, Fail> {
+    let mut bytes = Vec::new(alloc);
+    let mut high = None;
+    for digit in digits.chars() {
+        let Some(digit) = digit.to_digit(16) else {
+            continue;
+        };
+        let digit = u8::try_from(digit).ok().ok_or("digit")?;
+        match high {
+            None => high = Some(digit),
+            Some(first) => {
+                bytes.push((first << 4) | digit)?;
+                high = None;
+            }
+        }
+    }
+    Ok(bytes)
+}
 
 pub fn words(alloc: Global, line: &str) -> Result<Vec<String>, Fail> {
     let mut words = Vec::new(alloc);

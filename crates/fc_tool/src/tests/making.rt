@@ -1,4 +1,5 @@
-use crate::tests::{BEAT, Endless, LINE, lines, run_without_hub, words};
+// The command `make`, through `run`.
+use crate::tests::{BEAT, Endless, LINE, bytes_of, lines, run_without_hub, words};
 use fc_base::{MemSink, MemSource, SureSink, SureSource};
 use std::alloc::Global;
 use std::test::Fail;
@@ -20,26 +21,6 @@ fn made(alloc: Global, text: &str) -> Result<(u8, Vec<u8>), Fail> {
         Vec::from_slice(alloc, text.as_bytes())?,
         4096,
     )
-}
-
-// The bytes of hexadecimal digits, between which spaces may stand.
-fn bytes_of(alloc: Global, digits: &str) -> Result<Vec<u8>, Fail> {
-    let mut bytes = Vec::new(alloc);
-    let mut high: Option<u8> = None;
-    for c in digits.chars() {
-        let Some(digit) = c.to_digit(16) else {
-            continue;
-        };
-        let digit = digit as u8;
-        high = match high {
-            None => Some(digit),
-            Some(first) => {
-                bytes.push(first.wrapping_mul(16).wrapping_add(digit))?;
-                None
-            }
-        };
-    }
-    Ok(bytes)
 }
 
 #[test]
