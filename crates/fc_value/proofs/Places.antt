@@ -1,5 +1,5 @@
 -- What a node that is put leaves of a value.
-use Rattle.std.proofs.Common.{◌≡◌, ◌∙◌, refl, ap, sym, arith, ℕ, zero, suc, ◌==◌, eqb-true, Bool, true, false, if◌then◌else◌, List, [], ◌∷◌, ◌++◌, slice_get, slice_set, Option, Some, None, option_map, option_and_then}
+use Rattle.std.proofs.Common.{◌≡◌, ◌∙◌, refl, ap, sym, arith, ℕ, zero, suc, ◌==◌, eqb-true, Bool, true, false, if◌then◌else◌, List, [], ◌∷◌, ◌++◌, append-nil, slice_get, slice_set, Option, Some, None, option_map, option_and_then}
 use Rattle.fc_value.specs.Nodes.{are_apart, changed, child, child_layer, node_at, put_at, with_child, with_child_layer, with_entry}
 use Rattle.fc_value.specs.declared.value.Value.{Value, out-Value, roll-Value}
 use Rattle.fc_value.specs.declared.value.Value.TheOpen.{Value-F}
@@ -85,6 +85,9 @@ put_step i places more v w c (Some d) e h below = ap (option_and_then (node_at (
 pub node_put : (places : List ℕ) → Put places
 node_put [] v w c h below = refl
 node_put (i ∷ places) v w c h below = put_step i places (node_put places) v w c (child i v) refl h below
+
+pub node_there : (places : List ℕ) (v w c : Value) → node_at places v ≡ Some c → node_at places (put_at v places w) ≡ Some w
+node_there places v w c h = ap (λ ps. node_at ps (put_at v places w)) (sym (append-nil places)) ∙ node_put places v w c h []
 
 -- ---- the nodes above
 abbrev Above : List ℕ → Type 0

@@ -35,7 +35,8 @@ pub fn written_values_are_read()
 /// What a node that is put leaves of a value: it stands at its places, with all that is in it; the nodes through which its
 /// places lead have it within them; each other place is as it was. Where a place is not there the value is as it was.
 pub fn other_places_stay()
-    ensures put { (v w c : Value) (places below : List ℕ) → node_at places v ≡ Some c → node_at (places ++ below) (put_at v places w) ≡ node_at below w }
+    ensures there { (v w c : Value) (places : List ℕ) → node_at places v ≡ Some c → node_at places (put_at v places w) ≡ Some w }
+    ensures within { (v w c : Value) (places below : List ℕ) → node_at places v ≡ Some c → node_at (places ++ below) (put_at v places w) ≡ node_at below w }
     ensures above { (v w : Value) (front places : List ℕ) → node_at front (put_at v (front ++ places) w) ≡ option_map (λ c. put_at c places w) (node_at front v) }
     ensures other { (v w : Value) (places others : List ℕ) → are_apart places others ≡ true → node_at others (put_at v places w) ≡ node_at others v }
     ensures nowhere { (v w : Value) (places : List ℕ) → node_at places v ≡ None → put_at v places w ≡ v }
