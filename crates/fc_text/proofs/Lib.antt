@@ -5,3 +5,6 @@ pub mod Octets
 pub mod Cutting
 pub mod LineSteps
 pub mod Loops
+pub mod Given
+pub mod TextProper
+pub mod MessageProper

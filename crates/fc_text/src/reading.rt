@@ -1,7 +1,8 @@
 // Text to messages.
 ghost use Rattle.std.specs.Prelude.{◌≡◌, ◌≤◌, ◌<◌, length, true, IfOk, OnOk};
+ghost use Rattle.std.specs.List.{AllByRecursion};
 ghost use Rattle.fc_msg.specs.Bodies.{holding as body_holding};
-ghost use Rattle.fc_msg.specs.Messages.{message_fits};
+ghost use Rattle.fc_msg.specs.Messages.{IsProper, message_fits};
 ghost use Rattle.fc_text.specs.TextPlaces.{Reads, TextTells};
 ghost use Rattle.fc_text.specs.TextReading.{content_at, head_at, message_at, number_at, shut as is_shut, many_at, text_in, whole_at};
 
@@ -17,8 +18,16 @@ use std::alloc::Global;
 /// The messages of a text in the layout of `show`, whose last line may lack its line feed, or the first line that does
 /// not fit, with its first word that does not. Hexadecimal digits are taken in either case, and the free bits of flags
 /// are dropped. A message that `encode` refuses does not fit at its first line.
-#[tactic(auto, unfolding(crate::specs::TextReading::text_in))]
 pub fn read_text(alloc: Global, bytes: &[u8]) -> Result<List<Message>, TextFault>
+    ensures exact { TextTells (text_in bytes.now) result }
+    ensures proper { IfOk result (λ ms. AllByRecursion IsProper ms) }
+    ensures fits { IfOk result (λ ms. AllByRecursion (λ m. message_fits m ≡ true) ms) }
+{
+    read_all(alloc, bytes)
+}
+
+#[tactic(auto, unfolding(crate::specs::TextReading::text_in))]
+fn read_all(alloc: Global, bytes: &[u8]) -> Result<List<Message>, TextFault>
     ensures { TextTells (text_in bytes.now) result }
 {
     let mut lines = Lines::over(bytes);
@@ -168,8 +177,18 @@ fn read_content(alloc: Global, kind: u8, lines: &mut Lines) -> Result<MsgBody, T
     }
 }
 
-// Whether `encode` takes a message.
+// Whether `encode` takes a message. It takes each that has no body.
 fn can_encode(alloc: Global, message: &Message) -> Result<bool, Memory>
+    ensures { IfOk result (λ fits. fits ≡ message_fits message.now) }
+{
+    match &message.body {
+        MsgBody::Heartbeat => Ok(true),
+        _ => encodes(alloc, message),
+    }
+}
+
+// Whether `encode` takes a message, by encoding it.
+fn encodes(alloc: Global, message: &Message) -> Result<bool, Memory>
     ensures { IfOk result (λ fits. fits ≡ message_fits message.now) }
 {
     let mut bytes = Vec::new(alloc);
