@@ -35,7 +35,7 @@ fn hub<'a>(
         Err(WordFault::Memory) => return Err(Memory),
     };
     match &meant {
-        Command::Show => TcpHub::listen(alloc, rt, "", 1),
+        Command::Show | Command::Make => TcpHub::listen(alloc, rt, "", 1),
         Command::Element {
             address,
             connections,
