@@ -1,13 +1,13 @@
+pub mod Answered
 pub mod Appending
 pub mod Completeness
 pub mod Cutting
 pub mod Decimals
 pub mod Flattening
-pub mod Given
+pub mod Heartbeats
 pub mod Indents
 pub mod LineSteps
 pub mod Loops
-pub mod MessageProper
 pub mod Octets
 pub mod PlainWords
 pub mod ReadItems
@@ -23,5 +23,4 @@ pub mod SpelledRanges
 pub mod SpelledWords
 pub mod SplitLines
 pub mod TextLaws
-pub mod TextProper
 pub mod WholeLines

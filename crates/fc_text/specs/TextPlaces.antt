@@ -21,6 +21,12 @@ abbrev pub TextTells : {X : Type 0} → Result X TextPlace → Result X TextFaul
 TextTells read (Ok x) = read ≡ Ok x
 TextTells read (Err fault) = Fails read fault
 
+-- a call gives this, unless memory is wanting
+abbrev pub Gives : {X : Type 0} → X → Result X TextFault → Type 0
+Gives x (Ok other) = other ≡ x
+Gives x (Err (faults.At line column)) = ⊥
+Gives x (Err faults.Memory) = Unit {0}
+
 -- the same of a call that reads the front, and what it leaves to be read
 abbrev pub Reads : {X S : Type 0} → Result (X × S) TextPlace → Result X TextFault → S → Type 0
 Reads read (Ok x) rest = read ≡ Ok (x, rest)

@@ -1,9 +1,11 @@
 // Text to messages.
-ghost use Rattle.std.specs.Prelude.{◌≡◌, ◌≤◌, ◌<◌, length, true, IfOk, OnOk};
+ghost use Rattle.std.specs.Prelude.{◌≡◌, ◌≤◌, ◌<◌, length, true, IfOk, OnOk, List as Listed};
 ghost use Rattle.std.specs.List.{AllByRecursion};
 ghost use Rattle.fc_msg.specs.Bodies.{holding as body_holding};
 ghost use Rattle.fc_msg.specs.Messages.{IsProper, message_fits};
-ghost use Rattle.fc_text.specs.TextPlaces.{Reads, TextTells};
+ghost use Rattle.fc_msg.specs.declared.message.Message.{Message as Spelled};
+ghost use Rattle.fc_text.specs.TextPlaces.{Gives, Reads, TextTells};
+ghost use Rattle.fc_text.specs.TextGrammar.{SpellsText};
 ghost use Rattle.fc_text.specs.TextReading.{content_at, head_at, message_at, number_at, shut as is_shut, many_at, text_in, whole_at};
 
 use crate::TextFault;
@@ -20,6 +22,8 @@ use std::alloc::Global;
 /// are dropped. A message that `encode` refuses does not fit at its first line.
 pub fn read_text(alloc: Global, bytes: &[u8]) -> Result<List<Message>, TextFault>
     ensures exact { TextTells (text_in bytes.now) result }
+    ensures spelled { IfOk result (λ ms. SpellsText ms bytes.now) }
+    ensures only { (ms : Listed Spelled) → SpellsText ms bytes.now → Gives ms result }
     ensures proper { IfOk result (λ ms. AllByRecursion IsProper ms) }
     ensures fits { IfOk result (λ ms. AllByRecursion (λ m. message_fits m ≡ true) ms) }
 {

@@ -1,5 +1,5 @@
 use Rattle.std.proofs.Common.{ap}
-use Rattle.fc_text.proofs.Given.{heartbeat_fits}
+use Rattle.fc_text.proofs.Heartbeats.{heartbeat_fits}
 use Rattle.fc_text.proofs.reading.can_encode.Goals as goal
 
 pub returns-in-Heartbeat : goal.returns-in-Heartbeat
