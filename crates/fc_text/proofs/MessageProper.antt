@@ -188,18 +188,70 @@ named P false k kind others h here there = there h
 none_is : (kind : ℕ) → ◌≡◌ {A = Option ℕ} None (Some kind) → ⊥
 none_is kind h = cc
 
+-- the names, the last ones first
+abbrev names_9 : List ℕ → Option ℕ
+names_9 name = None
+
+abbrev names_8 : List ℕ → Option ℕ
+names_8 name = cond (bytes_eq name (codes "AssociationTeardown")) (Some 2) (names_9 name)
+
+abbrev names_7 : List ℕ → Option ℕ
+names_7 name = cond (bytes_eq name (codes "AssociationSetupResponse")) (Some 17) (names_8 name)
+
+abbrev names_6 : List ℕ → Option ℕ
+names_6 name = cond (bytes_eq name (codes "AssociationSetup")) (Some 1) (names_7 name)
+
+abbrev names_5 : List ℕ → Option ℕ
+names_5 name = cond (bytes_eq name (codes "EventNotification")) (Some 5) (names_6 name)
+
+abbrev names_4 : List ℕ → Option ℕ
+names_4 name = cond (bytes_eq name (codes "QueryResponse")) (Some 20) (names_5 name)
+
+abbrev names_3 : List ℕ → Option ℕ
+names_3 name = cond (bytes_eq name (codes "Query")) (Some 4) (names_4 name)
+
+abbrev names_2 : List ℕ → Option ℕ
+names_2 name = cond (bytes_eq name (codes "ConfigResponse")) (Some 19) (names_3 name)
+
+abbrev names_1 : List ℕ → Option ℕ
+names_1 name = cond (bytes_eq name (codes "Config")) (Some 3) (names_2 name)
+
+abbrev names_0 : List ℕ → Option ℕ
+names_0 name = cond (bytes_eq name (codes "Heartbeat")) (Some 15) (names_1 name)
+
+named_9 : (name : List ℕ) (kind : ℕ) → names_9 name ≡ Some kind → Content kind
+named_9 name kind h = absurd (none_is kind h)
+
+named_8 : (name : List ℕ) (kind : ℕ) → names_8 name ≡ Some kind → Content kind
+named_8 name kind h = named Content (bytes_eq name (codes "AssociationTeardown")) 2 kind (names_9 name) h reason_proper (named_9 name kind)
+
+named_7 : (name : List ℕ) (kind : ℕ) → names_7 name ≡ Some kind → Content kind
+named_7 name kind h = named Content (bytes_eq name (codes "AssociationSetupResponse")) 17 kind (names_8 name) h result_proper (named_8 name kind)
+
+named_6 : (name : List ℕ) (kind : ℕ) → names_6 name ≡ Some kind → Content kind
+named_6 name kind h = named Content (bytes_eq name (codes "AssociationSetup")) 1 kind (names_7 name) h setup_proper (named_7 name kind)
+
+named_5 : (name : List ℕ) (kind : ℕ) → names_5 name ≡ Some kind → Content kind
+named_5 name kind h = named Content (bytes_eq name (codes "EventNotification")) 5 kind (names_6 name) h event_proper (named_6 name kind)
+
+named_4 : (name : List ℕ) (kind : ℕ) → names_4 name ≡ Some kind → Content kind
+named_4 name kind h = named Content (bytes_eq name (codes "QueryResponse")) 20 kind (names_5 name) h query_response_proper (named_5 name kind)
+
+named_3 : (name : List ℕ) (kind : ℕ) → names_3 name ≡ Some kind → Content kind
+named_3 name kind h = named Content (bytes_eq name (codes "Query")) 4 kind (names_4 name) h query_proper (named_4 name kind)
+
+named_2 : (name : List ℕ) (kind : ℕ) → names_2 name ≡ Some kind → Content kind
+named_2 name kind h = named Content (bytes_eq name (codes "ConfigResponse")) 19 kind (names_3 name) h config_response_proper (named_3 name kind)
+
+named_1 : (name : List ℕ) (kind : ℕ) → names_1 name ≡ Some kind → Content kind
+named_1 name kind h = named Content (bytes_eq name (codes "Config")) 3 kind (names_2 name) h config_proper (named_2 name kind)
+
+named_0 : (name : List ℕ) (kind : ℕ) → names_0 name ≡ Some kind → Content kind
+named_0 name kind h = named Content (bytes_eq name (codes "Heartbeat")) 15 kind (names_1 name) h heartbeat_proper (named_1 name kind)
+
 content_proper : (name : List ℕ) (kind : ℕ) → message_named name ≡ Some kind → Content kind
 unfolding message_named
-content_proper name kind h =
-    named Content _ 15 kind _ h heartbeat_proper
-    (λ h. named Content _ 3 kind _ h config_proper
-    (λ h. named Content _ 19 kind _ h config_response_proper
-    (λ h. named Content _ 4 kind _ h query_proper
-    (λ h. named Content _ 20 kind _ h query_response_proper
-    (λ h. named Content _ 5 kind _ h event_proper
-    (λ h. named Content _ 1 kind _ h setup_proper
-    (λ h. named Content _ 17 kind _ h result_proper
-    (λ h. named Content _ 2 kind _ h reason_proper (λ h. absurd (none_is kind h))))))))))
+content_proper name kind h = named_0 name kind h
 
 -- the line of a message
 pub record FineHead (head : Head) : Type 0 where
