@@ -1,5 +1,6 @@
 -- The first rule that bytes break, with its place: RFC 5810, sections 6 and 7, in the order of this profile. The rules go
--- over the header, then the type, and then the list of all TLVs and ends of containers in reading order.
+-- over the header, then the type, and then the body as it is read. That this is the first in the list of all tests of the
+-- TLVs and ends of containers in reading order is a law.
 use Rattle.std.specs.Prelude.{ℕ, ◌*◌, ◌/◌, ◌==◌, ◌||◌, not, nat_lt, Bool, if◌then◌else◌, List, [], ◌∷◌, length, drop, slice_index, codes, Option, Some, None, Result, Ok, Err}
 use Rattle.fc_wire.specs.Bytes.{u16_at}
 use Rattle.fc_wire.specs.Tlvs.{tlvs}

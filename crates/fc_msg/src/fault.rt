@@ -23,7 +23,8 @@ pub enum Reason {
     NotBuilt,
     /// The type of the message is in no table.
     UnknownType,
-    /// There is no room for the head of a TLV or ILV, or its length does not count its head.
+    /// There is no room for the head of a TLV or ILV, or its length does not count its head; or an LFBselect or KEYINFO has
+    /// no room for its numbers.
     TlvShort,
     /// A TLV or ILV is longer than what holds it.
     TlvPast,

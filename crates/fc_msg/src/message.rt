@@ -43,30 +43,40 @@ pub enum MsgBody {
     Heartbeat,
 }
 
-/// The types of messages.
+/// The type of an AssociationSetup (RFC 5810, section 7.1.1, as all types of messages).
 pub const SETUP: u8 = 0x01;
 
+/// The type of an AssociationTeardown.
 pub const TEARDOWN: u8 = 0x02;
 
+/// The type of a Config.
 pub const CONFIG: u8 = 0x03;
 
+/// The type of a Query.
 pub const QUERY: u8 = 0x04;
 
+/// The type of an EventNotification.
 pub const EVENT: u8 = 0x05;
 
+/// The type of a PacketRedirect.
 pub const REDIRECT: u8 = 0x06;
 
+/// The type of a Heartbeat.
 pub const HEARTBEAT: u8 = 0x0f;
 
+/// The type of an AssociationSetupResponse.
 pub const SETUP_RESPONSE: u8 = 0x11;
 
+/// The type of a ConfigResponse.
 pub const CONFIG_RESPONSE: u8 = 0x13;
 
+/// The type of a QueryResponse.
 pub const QUERY_RESPONSE: u8 = 0x14;
 
-/// The types of the TLVs that hold a result or a reason.
+/// The type of an ASResult TLV.
 pub const AS_RESULT: u16 = 0x0010;
 
+/// The type of an ASTreason TLV.
 pub const AS_REASON: u16 = 0x0011;
 
 impl MsgBody {

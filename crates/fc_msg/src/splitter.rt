@@ -119,7 +119,8 @@ fn read_behind<S: Source>(bytes: &mut Vec<u8>, input: &mut S, most: usize) -> Re
     }
 }
 
-/// How long the frame is that stands whole at the front of the bytes.
+/// How many bytes the frame has that stands whole at the front of the bytes, or `None` where none does: four times the words
+/// in its bytes 2 and 3, and 24 at least (RFC 5810, section 6.1).
 #[inline(always)]
 pub fn whole_frame(bytes: &[u8]) -> Option<usize>
     ensures length { IfSome result (λ n. n ≡ frame_len bytes.now) }

@@ -108,8 +108,9 @@ fn tell(alloc: Global, bytes: &[u8], into: &mut Vec<u8>) -> Result<(), MsgFault>
     }
 }
 
-/// Appends the text of the message that bytes spell, or tells the first rule that they break, with its place. The message
-/// is never held whole: each part is appended as soon as it is read. After an `Err` some of the text may stand there.
+/// Appends the text of the message that bytes spell, or tells the first rule that they break, with its place in bytes from
+/// the start of them. Each part is appended as soon as it is read, so that no more than one PATH-DATA is held. After an
+/// `Err` some of the text may stand there.
 pub fn show_bytes(alloc: Global, bytes: &[u8], into: &mut Vec<u8>) -> Result<(), MsgFault>
     ensures shown { IfOk result (λ _. (m : Spelled) × Spells m bytes.now × (into.new.items ≡ into.old.items ++ message_text m)) }
     ensures refused { IfErr result (λ fault. Refuses (fault_of bytes.now) fault) }

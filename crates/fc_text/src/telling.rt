@@ -240,7 +240,7 @@ fn tell_select(alloc: Global, into: &mut Vec<u8>, message: u8, tlv: &Tlv) -> Res
     tell_select_of(alloc, into, message, tlv, padded)
 }
 
-// All LFBselects of a message that are left.
+/// Appends the lines of all LFBselects of a message of a type that are left.
 pub fn tell_selects(
     alloc: Global,
     into: &mut Vec<u8>,
@@ -258,7 +258,7 @@ pub fn tell_selects(
     Ok(())
 }
 
-// The LFBselects of a message with an end, of which there is at least one.
+/// Appends the lines of the LFBselects of a message of a type with an end, of which there is at least one.
 pub fn tell_some_selects(
     alloc: Global,
     into: &mut Vec<u8>,

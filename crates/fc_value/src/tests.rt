@@ -558,6 +558,8 @@ fn nodes_of_values(rt: HostRuntime) -> Result<(), Fail> {
     if let Some(found) = node_mut(&mut value, &[0, 1, 0]) {
         *found = Value::Number(8);
     }
+    assert!(rt; node(&value, &[0, 1, 0]) == Some(&Value::Number(8)));
+    assert!(rt; node(&value, &[0, 0, 0]) == Some(&Value::Number(5)));
     let before = replace_node(&mut value, &[0, 1, 0], Value::Number(7)).ok();
     assert!(rt; before == Some(Value::Number(8)));
     assert!(rt; node(&value, &[0, 1, 0]) == Some(&Value::Number(7)));

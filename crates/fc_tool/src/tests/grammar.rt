@@ -127,15 +127,22 @@ fn parts(alloc: Global, count: u32) -> Result<Vec<u8>, Fail> {
 fn the_largest_text_of_a_message_is_written(rt: HostRuntime) -> Result<(), Fail> {
     let alloc = rt.alloc();
     let mut body = Vec::new(alloc);
-    for count in [8173, 8173, 8173, 8171] {
-        let select = nested(alloc, 1, 16, parts(alloc, count)?.as_slice())?;
+    for _ in 0..3 {
+        let select = nested(alloc, 0x0a, 16, parts(alloc, 8173)?.as_slice())?;
         body.extend_from_slice(select.as_slice())?;
     }
-    let (status, text) = shown(alloc, message(alloc, 3, body.as_slice())?, 65_536)?;
+    // There is room for one ID more, in the innermost PATH-DATA.
+    let id = [0, 0, 0, 1, 0xff, 0xff, 0xff, 0xff];
+    let innermost = tlv(alloc, 0x0110, &id, parts(alloc, 8171)?.as_slice())?;
+    let select = nested(alloc, 0x0a, 15, innermost.as_slice())?;
+    body.extend_from_slice(select.as_slice())?;
+    let bytes = message(alloc, 0x14, body.as_slice())?;
+    assert_eq!(rt; bytes.len(), 262_140);
+    let (status, text) = shown(alloc, bytes, 65_536)?;
     assert_eq!(rt; status, 0);
-    // A line of 70 bytes; four times the select, the operation, 16 paths and the word before the parts, in 493; and 57 for
-    // each of the 32,690 parts.
-    assert_eq!(rt; text.len(), 1_865_372);
+    // A line of 77 bytes; four times the select, the operation, 16 paths and the word before the parts, in 507; 11 for the
+    // ID; and 57 for each of the 32,690 parts.
+    assert_eq!(rt; text.len(), 1_865_446);
     assert!(rt;
         text.as_slice().ends_with(b"                                        ilv 4294967295 -\n")
     );
