@@ -110,7 +110,7 @@ fn key_values(
 ) -> Result<Vec<Vec<u8>>, Memory>
     ensures { IfOk result (λ values. map (λ v. v.items) values.items ≡ spec.key_values fields.now key.now entries.now) }
 {
-    let mut values = Vec::new(alloc);
+    let mut values = Vec::with_capacity(alloc, entries.len())?;
     for (_, entry) in entries {
         values.push(key_value(alloc, fields, key, entry)?)?;
     }

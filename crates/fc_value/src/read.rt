@@ -131,7 +131,7 @@ fn read_fields<'a>(
     ensures exact { Gives (λ x. (x.0, x.1.now)) result (each_in (map inside_at fields.now) bytes.now) }
     ensures short { IfOk result (λ x. length x.1.now ≤ length bytes.now) }
 {
-    let mut values = List::new(alloc);
+    let mut values = List::from_vec(Vec::with_capacity(alloc, fields.len())?);
     let mut rest = bytes;
     for field in fields.as_slice() {
         let (value, behind) = read_inside(alloc, &field.ty, rest)?;
@@ -163,7 +163,7 @@ fn read_table(
 fn listed(alloc: Global, found: BTreeMap<u32, Value>) -> Result<List<(u32, Value)>, Memory>
     ensures { IfOk result (λ entries. entries ≡ found.entries) }
 {
-    let mut entries = List::new(alloc);
+    let mut entries = List::from_vec(Vec::with_capacity(alloc, found.len())?);
     for entry in found {
         entries.push(entry)?;
     }

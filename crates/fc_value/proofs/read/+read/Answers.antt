@@ -31,7 +31,7 @@ read_entries-returns t c =
 
 pub read_fields-returns-in_err-value-clause-exact : goal.read_fields-returns-in_err-value-clause-exact
 read_fields-returns-in_err-value-clause-exact t c =
-    let p = err_from_is_err_and c.from_residual.result c.from_residual.ensures.1 in
+    let p = err_from_is_err_and c.from_residual-in_err-value.result c.from_residual-in_err-value.ensures.1 in
     rw (p.1, p.2)
     (subst (λ fs. Fails c.in_err-value.field-0.0 (each_in (map inside_at fs) c.args.bytes.now)) c.as_slice-field-items.ensures
     (fields_fail c.as_slice-field-items.result.now c.loop-field.field-index c.field-item.result c.loop-field.rest.now c.loop-field.values c.in_err-value.field-0.0 _
