@@ -10,7 +10,7 @@ abbrev pub in_front : ℕ → List (List ℕ) → List (List ℕ)
 in_front byte [] = (byte ∷ []) ∷ []
 in_front byte (piece ∷ pieces) = (byte ∷ piece) ∷ pieces
 
--- the lines of a text; nothing behind the last line feed is no line
+-- the lines of a text; a line feed at the end begins no further line
 abbrev pub lines_of : List ℕ → List (List ℕ)
 lines_of [] = []
 lines_of (byte ∷ bytes) = if byte == 10 then [] ∷ lines_of bytes else in_front byte (lines_of bytes)

@@ -7,11 +7,9 @@ use crate::TextFault;
 use crate::lines::Lines;
 use crate::read_select::read_some_selects;
 use fc_base::List;
+use fc_msg::CONFIG;
 use fc_path::Select;
 use std::alloc::Global;
-
-// The type of a Config.
-const CONFIG: u8 = 3;
 
 /// The LFBselects of the body of a Config, whose lines stand without the indentation that they have in a message; or the
 /// first line that does not fit, with its first word that does not. There is at least one.

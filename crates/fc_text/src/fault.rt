@@ -10,7 +10,7 @@ use std::alloc::{AllocError, AllocFailed};
 pub enum TextFault {
     /// The line, from 1, and the column, from 1 and in bytes: that of the word, of the place behind the line's end where a
     /// word is missing, or 1 where the indentation is wrong. Where the text ends too early, the line behind the last one
-    /// and column 1.
+    /// and column 1. Where a message can't be encoded, its first line and column 1.
     At { line: usize, column: usize },
     /// There was no memory.
     Memory,

@@ -1,14 +1,16 @@
 // Frames as text, without the messages that they spell.
-ghost use Rattle.std.specs.Prelude.{◌≡◌, ◌++◌, length, Some, OnOk, IfOk, IfErr};
+ghost use Rattle.std.specs.Prelude.{◌≡◌, ◌++◌, ◌∷◌, [], length, true, Ok, Some, OnOk, IfOk, IfErr};
 ghost use Rattle.fc_msg.specs.Bodies.{body_at};
 ghost use Rattle.fc_msg.specs.Decoding.{IsWithin, Refuses};
 ghost use Rattle.fc_msg.specs.Faults.{fault_of};
-ghost use Rattle.fc_msg.specs.Messages.{Spells};
+ghost use Rattle.fc_msg.specs.Messages.{Spells, message_fits};
 ghost use Rattle.fc_msg.specs.Reading.{message_in};
 ghost use Rattle.fc_msg.specs.declared.message.Message.{Message as Spelled};
 ghost use Rattle.fc_text.specs.Text.{content_text, fields_text, message_text};
 ghost use Rattle.fc_text.specs.Appending.{Tells, bare, type_name};
+ghost use Rattle.fc_text.specs.TextReading.{text_in};
 
+use crate::laws::decoded_text_is_read;
 use crate::message::{fields, push_number};
 use crate::telling::{tell_selects, tell_some_selects};
 use fc_base::Memory;
@@ -110,13 +112,16 @@ fn tell(alloc: Global, bytes: &[u8], into: &mut Vec<u8>) -> Result<(), MsgFault>
 
 /// Appends the text of the message that bytes spell, or tells the first rule that they break, with its place in bytes from
 /// the start of them. Each part is appended as soon as it is read, so that no more than one PATH-DATA is held. After an
-/// `Err` some of the text may stand there.
+/// `Err` some of the text may stand there. `read_text` reads the text as that message again, unless the message has grown too
+/// long to be encoded: its canonical bytes may be longer than these by padding that lengths count.
 pub fn show_bytes(alloc: Global, bytes: &[u8], into: &mut Vec<u8>) -> Result<(), MsgFault>
     ensures shown { IfOk result (λ _. (m : Spelled) × Spells m bytes.now × (into.new.items ≡ into.old.items ++ message_text m)) }
     ensures refused { IfErr result (λ fault. Refuses (fault_of bytes.now) fault) }
     ensures within { IfErr result (λ fault. IsWithin (length bytes.now) fault) }
+    ensures again { (m : Spelled) → Spells m bytes.now → message_fits m ≡ true → text_in (message_text m) ≡ Ok (m ∷ []) }
 {
     are_bytes(bytes);
     first_broken_rule_is_told();
+    decoded_text_is_read();
     tell(alloc, bytes, into)
 }

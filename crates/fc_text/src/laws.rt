@@ -3,7 +3,7 @@ ghost use Rattle.std.specs.Prelude.{◌≡◌, ◌↔◌, ◌∷◌, [], ℕ, Li
 ghost use Rattle.std.specs.List.{flat_map, AllByRecursion};
 ghost use Rattle.fc_wire.specs.Bytes.{AreBytes};
 ghost use Rattle.fc_path.specs.declared.oper.Select.{Select};
-ghost use Rattle.fc_msg.specs.Messages.{IsProper, Spells, message_fits};
+ghost use Rattle.fc_msg.specs.Messages.{Spells, message_fits};
 ghost use Rattle.fc_msg.specs.declared.message.Message.{Message};
 ghost use Rattle.fc_text.specs.Text.{message_text};
 ghost use Rattle.fc_text.specs.TextGrammar.{HasText, SpellsSelects, SpellsText};
@@ -35,9 +35,8 @@ pub fn shown_text_is_read()
     ensures all { (ms : List Message) → AllByRecursion HasText ms → text_in (flat_map message_text ms) ≡ Ok ms }
 {}
 
-/// A proper message that bytes spell has a text wherever it can be encoded; so what is decoded and printed is read as
-/// itself.
+/// A message that bytes spell has a text wherever it can be encoded; so what is decoded and printed is read as itself.
 pub fn decoded_text_is_read()
-    ensures text { (m : Message) (bytes : List ℕ) → AreBytes bytes → Spells m bytes → IsProper m → message_fits m ≡ true → HasText m }
-    ensures read { (m : Message) (bytes : List ℕ) → AreBytes bytes → Spells m bytes → IsProper m → message_fits m ≡ true → text_in (message_text m) ≡ Ok (m ∷ []) }
+    ensures text { (m : Message) (bytes : List ℕ) → AreBytes bytes → Spells m bytes → message_fits m ≡ true → HasText m }
+    ensures read { (m : Message) (bytes : List ℕ) → AreBytes bytes → Spells m bytes → message_fits m ≡ true → text_in (message_text m) ≡ Ok (m ∷ []) }
 {}

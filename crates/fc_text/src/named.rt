@@ -3,6 +3,10 @@ ghost use Rattle.std.specs.Prelude.{◌≡◌};
 ghost use Rattle.fc_text.specs.TextReading.{message_named as message_of, number_named as number_of, operation_named as operation_of};
 
 use crate::words::is;
+use fc_msg::{
+    CONFIG, CONFIG_RESPONSE, EVENT, HEARTBEAT, QUERY, QUERY_RESPONSE, SETUP, SETUP_RESPONSE,
+    TEARDOWN,
+};
 use fc_path::{Operation, operation_for};
 
 /// The type of the message of a name (RFC 5810, section 7).
@@ -11,31 +15,31 @@ pub fn message_named(name: &[u8]) -> Option<u8>
     ensures { result ≡ message_of name.now }
 {
     if is(name, b"Heartbeat") {
-        return Some(0x0f);
+        return Some(HEARTBEAT);
     }
     if is(name, b"Config") {
-        return Some(0x03);
+        return Some(CONFIG);
     }
     if is(name, b"ConfigResponse") {
-        return Some(0x13);
+        return Some(CONFIG_RESPONSE);
     }
     if is(name, b"Query") {
-        return Some(0x04);
+        return Some(QUERY);
     }
     if is(name, b"QueryResponse") {
-        return Some(0x14);
+        return Some(QUERY_RESPONSE);
     }
     if is(name, b"EventNotification") {
-        return Some(0x05);
+        return Some(EVENT);
     }
     if is(name, b"AssociationSetup") {
-        return Some(0x01);
+        return Some(SETUP);
     }
     if is(name, b"AssociationSetupResponse") {
-        return Some(0x11);
+        return Some(SETUP_RESPONSE);
     }
     if is(name, b"AssociationTeardown") {
-        return Some(0x02);
+        return Some(TEARDOWN);
     }
     None
 }

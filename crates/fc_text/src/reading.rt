@@ -12,7 +12,10 @@ use crate::TextFault;
 use crate::lines::Lines;
 use crate::read_select::{read_selects, read_some_selects};
 use fc_base::{List, Memory, WriteFault};
-use fc_msg::{Message, MsgBody, encode};
+use fc_msg::{
+    CONFIG, CONFIG_RESPONSE, EVENT, HEARTBEAT, Message, MsgBody, QUERY, QUERY_RESPONSE, SETUP,
+    SETUP_RESPONSE, TEARDOWN, encode,
+};
 use fc_path::Select;
 use fc_wire::Flags;
 use std::alloc::Global;
@@ -145,11 +148,11 @@ fn holding(kind: u8, selects: List<Select>) -> MsgBody
     ensures { result ≡ body_holding kind selects }
 {
     match kind {
-        0x03 => MsgBody::Config(selects),
-        0x13 => MsgBody::ConfigResponse(selects),
-        0x04 => MsgBody::Query(selects),
-        0x14 => MsgBody::QueryResponse(selects),
-        0x05 => MsgBody::Event(selects),
+        CONFIG => MsgBody::Config(selects),
+        CONFIG_RESPONSE => MsgBody::ConfigResponse(selects),
+        QUERY => MsgBody::Query(selects),
+        QUERY_RESPONSE => MsgBody::QueryResponse(selects),
+        EVENT => MsgBody::Event(selects),
         _ => MsgBody::Setup(selects),
     }
 }
@@ -161,16 +164,16 @@ fn read_content(alloc: Global, kind: u8, lines: &mut Lines) -> Result<MsgBody, T
     ensures less { OnOk result (length lines.new.lines ≤ length lines.old.lines) }
 {
     match kind {
-        0x0f => Ok(MsgBody::Heartbeat),
-        0x11 => {
+        HEARTBEAT => Ok(MsgBody::Heartbeat),
+        SETUP_RESPONSE => {
             let result = read_number(b"result", lines)?;
             Ok(MsgBody::SetupResponse(result))
         }
-        0x02 => {
+        TEARDOWN => {
             let reason = read_number(b"reason", lines)?;
             Ok(MsgBody::Teardown(reason))
         }
-        0x01 => {
+        SETUP => {
             let selects = read_selects(alloc, kind, 1, lines)?;
             Ok(MsgBody::Setup(selects))
         }

@@ -1,6 +1,6 @@
 // Texts of messages whose bytes stand in the specification of the format.
 use crate::{TextFault, read_body, read_text, show, show_bytes};
-use fc_msg::{decode, encode};
+use fc_msg::{MsgBody, decode, encode};
 use std::alloc::{AllocError, Global};
 use std::test::Fail;
 
@@ -26,7 +26,7 @@ fn bytes_of(alloc: Global, digits: &str) -> Result<Vec<u8>, AllocError> {
 }
 
 // The bytes of messages, and their texts.
-const SAMPLES: [(&str, &str); 11] = [
+const SAMPLES: [(&str, &str); 12] = [
     (
         "100F0006 40000001 00000002 00000000 00000000 C0000000",
         "Heartbeat from=40000001 to=00000002 corr=0000000000000000 flags=C0000000\n",
@@ -70,6 +70,10 @@ const SAMPLES: [(&str, &str); 11] = [
     (
         "10030016 40000001 00000001 00000101 00000001 C0600000 10000040 0001F001 00000001 00010034 01100030 00000001 00000004 01120024 00000101 00000001 01120014 00000001 00000001 00000002 00000002 01120004",
         "Config from=40000001 to=00000001 corr=0000010100000001 flags=C0600000\n  lfb 0001F001 00000001\n    SET\n      path 4\n        full 0000010100000001011200140000000100000001000000020000000201120004\n",
+    ),
+    (
+        "1003000E 40000001 00000001 00000000 00000000 00000000 10000020 00001001 00000001 00010014 01100010 00000001 00000001 01120004",
+        "Config from=40000001 to=00000001 corr=0000000000000000 flags=00000000\n  lfb 00001001 00000001\n    SET\n      path 1\n        full -\n",
     ),
 ];
 
@@ -133,7 +137,6 @@ Heartbeat@ = Heartbeat from=40000001 to=00000002 corr=0000000000000003 flags=070
 Heartbeat from=4000000a to=0000000B corr=abcdefABCDEF0123 flags=c0000000 = Heartbeat from=4000000A to=0000000b corr=ABCDEFabcdef0123 flags=C0000000
 Heartbeat@Heartbeat@ = Heartbeat@Heartbeat from=40000001 to=00000002 corr=0000000000000003 flags=00000000
 AssociationTeardown@  reason 4294967295 = AssociationTeardown@  reason 4294967295/
-AssociationSetup@ = AssociationSetup@
 Config@  lfb 0000000a 00000001/    SET/      path/        full -/ = Config@  lfb 0000000A 00000001/    SET/      path/        full -
 ConfigResponse@  lfb 00000001 00000001/    COMMIT-RESPONSE/      code 0c/ = ConfigResponse@  lfb 00000001 00000001/    COMMIT-RESPONSE/      code 0C/
 Config@  lfb 00000001 00000001/    DEL/      path 0 4294967295 key 0 abCD/        path 5/        path/    TRCOMP = Config@  lfb 00000001 00000001/    DEL/      path 0 4294967295 key 0 ABcd/        path 5/        path/    TRCOMP
@@ -157,6 +160,16 @@ fn equal_texts_are_read_alike(rt: HostRuntime) -> Result<(), Fail> {
 
 // Texts that are refused: the line and the column, and the text.
 const REFUSED: &str = "\
+1 24 Heartbeat from=40000001/
+1 36 Heartbeat from=40000001 to=00000002/
+2 6 Config@  lfb/
+2 9 AssociationTeardown@  reason/
+2 12 AssociationTeardown@  reason 1 2/
+3 5 Config@  lfb 00000001 00000001/    /
+4 15 ConfigResponse@  lfb 00000001 00000001/    COMMIT-RESPONSE/      code 00 1/
+5 14 ConfigResponse@  lfb 00000001 00000001/    SET-RESPONSE/      path 1/        code 0g/
+5 17 ConfigResponse@  lfb 00000001 00000001/    SET-RESPONSE/      path 1/        code 00 00/
+6 14 Config@  lfb 00000001 00000001/    SET/      path 1/        sparse/          ilv/
 1 1 heartbeat@
 1 1 PacketRedirect@
 1 1 /
@@ -281,6 +294,7 @@ fn a_text_is_refused_at_its_first_word_that_does_not_fit(rt: HostRuntime) -> Res
 fn nested(alloc: Global, operation: &str, depth: usize, body: &str) -> Result<Vec<u8>, AllocError> {
     let mut text = text_of(alloc, operation)?;
     for level in 0..depth {
+        // The bound keeps the sum within its type.
         for _ in 0..level.min(100) + 3 {
             text.extend_from_slice(b"  ")?;
         }
@@ -327,7 +341,7 @@ fn a_message_too_long_is_refused_at_its_first_line(rt: HostRuntime) -> Result<()
     let alloc = rt.alloc();
     for (count, fault) in [
         (65500, None),
-        (65530, Some(TextFault::At { line: 2, column: 1 })),
+        (65501, Some(TextFault::At { line: 2, column: 1 })),
     ] {
         let mut text = text_of(
             alloc,
@@ -346,7 +360,11 @@ fn a_body_is_read_without_indentation(rt: HostRuntime) -> Result<(), Fail> {
     let alloc = rt.alloc();
     let body = b"lfb 00001001 00000001\n  SET\n    path 1\n      full 0000000A\n";
     let selects = read_body(alloc, body).ok().ok_or("a body")?;
-    assert_eq!(rt; selects.len(), 1);
+    let inside = "Config@  lfb 00001001 00000001/    SET/      path 1/        full 0000000A/";
+    let text = text_of(alloc, inside)?;
+    let messages = read_text(alloc, text.as_slice()).ok().ok_or("a text")?;
+    let message = messages.get(0).ok_or("a message")?;
+    assert!(rt; message.body == MsgBody::Config(selects));
     for (text, line, column) in [
         ("", 1, 1),
         ("  lfb 00001001 00000001\n    SET\n", 1, 1),

@@ -6,3 +6,6 @@ returns-clause-shown c = all_spelled c.tell.result c.args.bytes.now c.args.into.
 
 pub returns-clause-within : goal.returns-clause-within
 returns-clause-within c = all_within c.tell.result c.args.bytes.now c.are_bytes.ensures c.first_broken_rule_is_told.ensures.within c.tell.ensures.refused
+
+pub returns-clause-again : goal.returns-clause-again
+returns-clause-again c m is fits = c.decoded_text_is_read.ensures.read m c.args.bytes.now c.are_bytes.ensures is fits
