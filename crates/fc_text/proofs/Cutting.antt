@@ -1,5 +1,5 @@
 -- Where a line and a word end.
-use Rattle.std.proofs.Common.{◌≡◌, ℕ, zero, suc, ◌+◌, ◌<◌, ◌≤◌, ◌==◌, ◌++◌, List, [], ◌∷◌, length, take, drop, get_or, Bool, true, false, cond, Option, Some, None, refl, sym, ap, ◌∙◌, arith, ne_eqb, eq-eqb, append_assoc}
+use Rattle.std.proofs.Common.{◌≡◌, ℕ, zero, suc, ◌<◌, ◌≤◌, ◌==◌, ◌++◌, List, [], ◌∷◌, length, take, drop, get_or, Bool, true, false, cond, Option, Some, None, refl, ap, ◌∙◌, arith, ne_eqb, eq-eqb, append_assoc}
 use Rattle.fc_text.specs.LineWords.{in_front, lines_of, words_of}
 use Rattle.fc_text.specs.WordValues.{digits_of, given, pairs_of}
 

@@ -1,5 +1,5 @@
 -- Taking lines and words, one step at a time.
-use Rattle.std.proofs.Common.{◌≡◌, ℕ, zero, suc, ◌+◌, ◌*◌, ◌<◌, ◌≤◌, ◌==◌, List, [], ◌∷◌, length, take, drop, Bool, true, false, cond, Some, None, Ok, Err, refl, sym, ap, ◌∙◌, subst, arith, ne_eqb, eq-eqb, length-drop, length-take-le}
+use Rattle.std.proofs.Common.{◌≡◌, ℕ, suc, ◌+◌, ◌*◌, ◌<◌, ◌≤◌, ◌==◌, List, [], ◌∷◌, length, take, drop, Bool, true, false, cond, Some, Ok, Err, refl, sym, ap, ◌∙◌, arith, ne_eqb, length-drop, length-take-le}
 use Rattle.std.proofs.lemmas.Bool.{eqb-true}
 use Rattle.fc_text.specs.TextPlaces.{place}
 use Rattle.fc_text.specs.LineWords.{in_front, lines_of, words_of, words_from, words_left, placed, first_word, rest_words, spaces_before, stands_at, line_at, none_left, LinesLeft, lines_left}

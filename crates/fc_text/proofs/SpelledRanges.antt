@@ -1,11 +1,11 @@
 -- The numbers of a message that bytes spell are within the ranges of their types.
-use Rattle.std.proofs.Common.{◌≡◌, ◌<◌, ◌+◌, ◌*◌, ◌/◌, ◌%◌, ◌^◌, ℕ, zero, suc, true, List, [], ◌∷◌, ◌++◌, length, take, drop, map, codes, Option, Some, None, refl, sym, ap, subst, ◌∙◌, arith}
+use Rattle.std.proofs.Common.{◌≡◌, ◌<◌, ◌+◌, ◌/◌, ◌^◌, ℕ, zero, suc, true, List, [], ◌∷◌, ◌++◌, length, take, drop, map, Option, Some, None, sym, subst, arith}
 use Rattle.std.specs.List.{flat_map, AllByRecursion}
 use Rattle.std.proofs.lemmas.List.{take-append-drop}
-use Rattle.fc_wire.specs.Bytes.{AreBytes, u16_bytes, u32_bytes}
+use Rattle.fc_wire.specs.Bytes.{AreBytes, u32_bytes}
 use Rattle.fc_wire.specs.Tlvs.{IsTlv}
 use Rattle.fc_wire.specs.declared.ilvs.Ilv.{Ilv}
-use Rattle.fc_path.specs.Grammar.{Each, IsResult, IsOwnIlv, IsKey, IsPathBy, IsBody, IsKeyed, IsValueIn, IsPath, IsOper, IsSelect}
+use Rattle.fc_path.specs.Grammar.{Each, IsResult, IsOwnIlv, IsPathBy, IsBody, IsKeyed, IsValueIn, IsPath, IsOper, IsSelect}
 use Rattle.fc_path.specs.declared.oper.OperKind.{OperKind}
 use Rattle.fc_path.specs.declared.oper.Oper.{Oper}
 use Rattle.fc_path.specs.declared.oper.Oper.TheVariants as oper
@@ -18,10 +18,9 @@ use Rattle.fc_msg.specs.Messages.{IsProper, ProperMsgBody, Spells, SpellsBody, m
 use Rattle.fc_msg.specs.declared.message.Message.{Message}
 use Rattle.fc_msg.specs.declared.message.MsgBody.{MsgBody}
 use Rattle.fc_msg.specs.declared.message.MsgBody.TheVariants.{Setup, SetupResponse, Teardown, Config, ConfigResponse, Query, QueryResponse, Event, Heartbeat}
-use Rattle.fc_text.specs.Text.{message_text}
-use Rattle.fc_text.specs.TextGrammar.{Line, ilv_line, key_words, step_words, path_lines, body_lines, oper_lines, select_lines, content_lines, message_lines, WordFits, LineFits, LinesFit, HasText}
+use Rattle.fc_text.specs.TextGrammar.{ilv_line, key_words, step_words, path_lines, oper_lines, select_lines, content_lines, message_lines, WordFits, LineFits, LinesFit, HasText}
 use Rattle.fc_text.proofs.ReadPaths.{layer_lines, body_is, path_lines_are}
-use Rattle.fc_text.proofs.WholeLines.{all_append, all_flat}
+use Rattle.fc_text.proofs.WholeLines.{all_flat}
 
 -- bytes in bytes
 bytes_split : (xs ys : List ℕ) → AreBytes (xs ++ ys) → AreBytes xs × AreBytes ys

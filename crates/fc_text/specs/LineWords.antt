@@ -1,6 +1,6 @@
 -- The lines of a text and the words of a line. A line ends at a line feed or at the end of the text, and single spaces part
 -- its words. This profile's own.
-use Rattle.std.specs.Prelude.{ℕ, zero, suc, ◌+◌, ◌*◌, ◌==◌, if◌then◌else◌, List, [], ◌∷◌, length, take, drop, Bool, true, false, Option, Some, None, Result, Ok, Err}
+use Rattle.std.specs.Prelude.{ℕ, suc, ◌+◌, ◌*◌, ◌==◌, if◌then◌else◌, List, [], ◌∷◌, length, take, drop, Bool, true, false, Option, Some, None, Result, Ok, Err}
 use Rattle.std.specs.Str.{bytes_eq}
 use Rattle.fc_text.specs.TextPlaces.{TextPlace, place, ◌>>=◌}
 use Rattle.fc_text.specs.WordValues.{given, decimal_of, digits_of, octets_of}

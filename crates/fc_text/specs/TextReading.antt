@@ -1,7 +1,7 @@
 -- What reading a text gives: its messages, or the first line that does not fit and the first word in it that does not.
 -- This profile's own; which operations stand in which messages, and what bodies their PATH-DATA have, is RFC 5810, section
 -- 7.1.6.
-use Rattle.std.specs.Prelude.{ℕ, zero, suc, ◌+◌, ◌==◌, ◌&&◌, ◌||◌, not, if◌then◌else◌, List, [], ◌∷◌, length, codes, Bool, true, false, Option, Some, None, Result, Ok, Err}
+use Rattle.std.specs.Prelude.{ℕ, zero, suc, ◌+◌, ◌==◌, ◌&&◌, not, if◌then◌else◌, List, [], ◌∷◌, length, codes, Option, Some, None, Result, Ok, Err}
 use Rattle.std.specs.Str.{bytes_eq}
 use Rattle.fc_wire.specs.declared.ilvs.Ilv.{Ilv}
 use Rattle.fc_path.specs.Kinds.{operation_of, takes_nothing, takes_full, takes_sparse, takes_outcome}

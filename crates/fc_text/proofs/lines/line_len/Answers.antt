@@ -1,5 +1,4 @@
-use Rattle.std.proofs.Common.{◌∷◌, take, drop, ap, ◌∙◌, add-one, arith, rules}
-use Rattle.fc_text.specs.LineWords.{lines_of}
+use Rattle.std.proofs.Common.{add-one, arith}
 use Rattle.fc_text.proofs.Cutting.{lines_cut}
 use Rattle.fc_text.proofs.lines.line_len.Goals as goal
 

@@ -1,4 +1,3 @@
-use Rattle.std.proofs.Common.{ap}
 use Rattle.fc_text.proofs.Heartbeats.{heartbeat_fits}
 use Rattle.fc_text.proofs.reading.can_encode.Goals as goal
 

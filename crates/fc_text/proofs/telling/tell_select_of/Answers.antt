@@ -1,7 +1,6 @@
-use Rattle.std.proofs.Common.{◌≡◌, ◌+◌, ◌++◌, drop, length, refl, sym, ap, ◌∙◌, arith}
+use Rattle.std.proofs.Common.{◌≡◌, ◌+◌, drop, length, sym, ap, ◌∙◌, arith}
 use Rattle.fc_wire.specs.Bytes.{u32_at}
 use Rattle.fc_wire.specs.Tlvs.{TlvItem, tlvs}
-use Rattle.fc_path.specs.Kinds.{holds_selects}
 use Rattle.fc_text.proofs.Appending.{select_goes}
 use Rattle.fc_text.proofs.telling.tell_select_of.Goals as goal
 

@@ -1,5 +1,4 @@
-use Rattle.std.proofs.Common.{◌∷◌, take, drop, add-one, arith, rules}
-use Rattle.fc_text.specs.LineWords.{words_of}
+use Rattle.std.proofs.Common.{add-one, arith}
 use Rattle.fc_text.proofs.Cutting.{words_cut, words_whole}
 use Rattle.fc_text.proofs.words.word_len.Goals as goal
 

@@ -1,4 +1,4 @@
-use Rattle.std.proofs.Common.{ap, sym, not, ◌∙◌, ◌==◌, ◌*◌, ◌<◌, length, arith, ne_eqb}
+use Rattle.std.proofs.Common.{ap, sym, not, ◌∙◌, ◌==◌, ◌*◌, ◌<◌, length, arith}
 use Rattle.std.proofs.lemmas.Bool.{eqb-true, eqb-false}
 use Rattle.fc_text.specs.LineWords.{LinesLeft, stands_at}
 use Rattle.fc_text.proofs.LineSteps.{stands_spaces, not_standing}

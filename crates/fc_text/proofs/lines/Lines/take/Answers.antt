@@ -1,6 +1,6 @@
-use Rattle.std.proofs.Common.{◌≡◌, ◌<◌, true, length, ap, sym, ◌∙◌, refl}
-use Rattle.fc_text.specs.LineWords.{LinesLeft, stands_at, lines_of}
-use Rattle.fc_text.proofs.LineSteps.{indent_fits, not_there, stands_some, there}
+use Rattle.std.proofs.Common.{ap, sym, ◌∙◌}
+use Rattle.fc_text.specs.LineWords.{LinesLeft}
+use Rattle.fc_text.proofs.LineSteps.{indent_fits}
 use Rattle.fc_text.proofs.lines.Lines.take.Goals as goal
 
 pub split_at-requires : goal.split_at-requires
