@@ -9,6 +9,7 @@ pub mod LineSteps
 pub mod Loops
 pub mod MessageProper
 pub mod Octets
+pub mod Pairs
 pub mod PlainWords
 pub mod ReadItems
 pub mod ReadLines

@@ -4,9 +4,9 @@ ghost use Rattle.std.specs.List.{flat_map};
 ghost use Rattle.fc_text.specs.Text.{body_text, code_text, content_text, fields_text, full_text, head_text, id_text, ilv_text, indent, key_text, message_text, number_text, oper_line, oper_text, path_line, path_text, response_text, select_line, select_text, selects_text, sparse_text};
 
 use crate::decimal::push_decimal;
-use crate::hexes::{push_word, two_digits};
+use crate::hexes::{eight_digits, push_word, sixteen_digits, two_digits};
 use crate::names::{message_name, operation_name};
-use fc_base::{Code, Memory, eight_digits, sixteen_digits};
+use fc_base::{Code, Memory};
 use fc_msg::{Message, MsgBody};
 use fc_path::{Body, Key, Oper, PathData, Select};
 use fc_wire::Ilv;
@@ -33,7 +33,7 @@ fn push_head(into: &mut Vec<u8>, message: &Message) -> Result<(), Memory>
 }
 
 /// What stands in that line behind the name.
-#[inline(always)]
+#[inline(never)]
 pub fn fields(message: &Message) -> [u8; 64]
     ensures { result ≡ fields_text message.now }
 {
