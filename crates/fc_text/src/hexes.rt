@@ -96,8 +96,9 @@ fn digits_of(b: &[u8; 8]) -> [u8; 16]
     ]
 }
 
+/// The digits of four bytes.
 #[inline(always)]
-fn digits_of_four(b: &[u8; 4]) -> [u8; 8]
+pub fn digits_of_four(b: &[u8; 4]) -> [u8; 8]
     ensures { result ≡ hex_text b.now }
 {
     [

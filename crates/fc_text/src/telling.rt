@@ -9,7 +9,7 @@ ghost use Rattle.fc_text.specs.Text.{oper_text, path_text, select_text, selects_
 ghost use Rattle.fc_text.specs.Appending.{Tells};
 
 use crate::message::{
-    push_full, push_line, push_path, push_path_line, push_response, push_select_line,
+    push_id_line, push_line, push_path, push_response, push_select_line, push_value,
 };
 use crate::names::operation_name;
 use fc_base::Memory;
@@ -39,8 +39,8 @@ fn tell_any_path(
 fn push_plain(into: &mut Vec<u8>, id: u32, value: &[u8]) -> Result<(), Memory>
     ensures { OnOk result (into.new.items ≡ into.old.items ++ path_text (plain id value.now) 3) }
 {
-    push_path_line(into, 3, &[id], &None)?;
-    push_full(into, 4, value)?;
+    push_id_line(into, id)?;
+    push_value(into, value)?;
     Ok(())
 }
 
