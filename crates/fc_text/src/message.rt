@@ -206,9 +206,9 @@ fn push_spaces(into: &mut Vec<u8>, level: usize) -> Result<(), Memory>
     Ok(())
 }
 
-// The line of a code.
+/// The line of a code.
 #[tactic(auto, unfolding(crate::specs::Text::code_text))]
-fn push_code(into: &mut Vec<u8>, level: usize, code: Code) -> Result<(), Memory>
+pub fn push_code(into: &mut Vec<u8>, level: usize, code: Code) -> Result<(), Memory>
     ensures { OnOk result (into.new.items ≡ into.old.items ++ code_text level code) }
 {
     push_indent(into, level)?;
