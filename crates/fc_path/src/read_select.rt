@@ -4,18 +4,22 @@ ghost use Rattle.fc_path.specs.Stray.{Gives, misplaced as is_misplaced};
 ghost use Rattle.fc_wire.specs.Bytes.{AreBytes};
 ghost use Rattle.fc_path.specs.Grammar.{IsSelectOf};
 ghost use Rattle.fc_path.specs.declared.oper.Select.{Select as Selected};
-ghost use Rattle.fc_path.specs.Reading.{some_in, path_or, path_at, content_in, oper_at, operation_at, select_at};
-ghost use Rattle.fc_path.specs.Plain.{plain};
+ghost use Rattle.fc_path.specs.Reading.{some_in, path_or, path_at, content_in, end_of, oper_at, operation_at, select_at};
+ghost use Rattle.fc_path.specs.Plain.{plain, bare, ended, with_id};
 ghost use Rattle.fc_path.specs.declared.fault.PathFault.{PathFault as Fault};
 ghost use Rattle.fc_path.specs.declared.path.PathData.{PathData as Path};
-ghost use Rattle.fc_path.specs.declared.path.Body.TheVariants.{Full};
+ghost use Rattle.fc_path.specs.declared.path.Body.{Body as Held};
+ghost use Rattle.fc_path.specs.declared.path.Body.TheVariants.{Full, Outcome};
+ghost use Rattle.fc_path.specs.declared.oper.OperKind.{OperKind as Kind};
 ghost use Rattle.fc_wire.specs.Tlvs.{TlvItem};
 
 use crate::kinds::{Operation, holds_selects, operation_for};
 use crate::read_path::{read_only_outcome, read_path};
-use crate::stray::{FULL_DATA, PATH_DATA, SELECT, is_known_in_select, misplaced, no_more_bodies};
+use crate::stray::{
+    FULL_DATA, PATH_DATA, RESULT, SELECT, is_known_in_select, misplaced, no_more_bodies,
+};
 use crate::{Oper, OperKind, PathData, PathFault, Select};
-use fc_base::List;
+use fc_base::{Code, List};
 use fc_wire::{Tlv, Tlvs, WireFault, read_u16, read_u32};
 use std::alloc::Global;
 
@@ -166,18 +170,52 @@ impl PathData {
     pub fn read_plain<'a>(kind: OperKind, tlv: &Tlv<'a>) -> Option<(u32, &'a [u8])>
         ensures { IfSome result (λ x. path_or is_misplaced (path_at kind 16) tlv.now ≡ Ok (plain x.0 x.1.now)) }
     {
-        let padded = tlv.padded();
-        if tlv.kind != PATH_DATA || padded.len() < 8 {
-            return None;
-        }
-        if read_u16(padded, 2) != 1 || read_u16(padded, 0) >> 15 == 1 {
-            return None;
-        }
-        let (_, numbers) = padded.split_at(4);
-        let (_, inner) = padded.split_at(8);
-        let value = only_value(kind, Tlvs::over(inner, tlv.place + 12))?;
-        Some((read_u32(numbers, 0), value))
+        let (id, tlvs) = behind_id(tlv)?;
+        let value = only_value(kind, tlvs)?;
+        Some((id, value))
     }
+
+    /// The ID of a PATH-DATA of an operation that has one ID, no key and no body, which takes no memory. `None` tells
+    /// nothing of the TLV.
+    pub fn read_bare(kind: OperKind, tlv: &Tlv) -> Option<u32>
+        ensures { IfSome result (λ id. path_or is_misplaced (path_at kind 16) tlv.now ≡ Ok (bare id)) }
+    {
+        let (id, mut tlvs) = behind_id(tlv)?;
+        if !kind.takes_nothing() {
+            return None;
+        }
+        match tlvs.next() {
+            None => Some(id),
+            Some(_) => None,
+        }
+    }
+
+    /// The ID and the code of a PATH-DATA of an operation that has one ID, no key and a result, which takes no memory.
+    /// `None` tells nothing of the TLV.
+    pub fn read_ended(kind: OperKind, tlv: &Tlv) -> Option<(u32, Code)>
+        ensures { IfSome result (λ x. path_or is_misplaced (path_at kind 16) tlv.now ≡ Ok (ended x.0 x.1)) }
+    {
+        let (id, tlvs) = behind_id(tlv)?;
+        let code = only_code(kind, tlvs)?;
+        Some((id, code))
+    }
+}
+
+// The ID of a PATH-DATA that has one and no key, and the TLVs behind it.
+#[inline(always)]
+fn behind_id<'a>(tlv: &Tlv<'a>) -> Option<(u32, Tlvs<'a>)>
+    ensures { IfSome result (λ x. (kind : Kind) (body : Held) → content_in kind (path_at kind 15) tlv.now.place false (end_of tlv.now) x.1.items x.1.fault ≡ Ok (None, body) → path_or is_misplaced (path_at kind 16) tlv.now ≡ Ok (with_id x.0 body)) }
+{
+    let padded = tlv.padded();
+    if tlv.kind != PATH_DATA || padded.len() < 8 {
+        return None;
+    }
+    if read_u16(padded, 2) != 1 || read_u16(padded, 0) >> 15 == 1 {
+        return None;
+    }
+    let (_, numbers) = padded.split_at(4);
+    let (_, inner) = padded.split_at(8);
+    Some((read_u32(numbers, 0), Tlvs::over(inner, tlv.place + 12)))
 }
 
 // The value that a PATH-DATA without key holds, where it holds a whole value and nothing else.
@@ -196,6 +234,28 @@ fn only_value<'a>(kind: OperKind, mut tlvs: Tlvs<'a>) -> Option<&'a [u8]>
             match no_more_bodies(tlvs) {
                 Ok(()) => Some(tlv.body),
                 Err(_) => None,
+            }
+        }
+        _ => None,
+    }
+}
+
+// The code that a PATH-DATA without key holds, where it holds a result and nothing else.
+#[inline(always)]
+fn only_code(kind: OperKind, mut tlvs: Tlvs) -> Option<Code>
+    ensures { IfSome result (λ code. (one : TlvItem → Result Path Fault) (path end : ℕ) → content_in kind one path false end tlvs.entry.items tlvs.entry.fault ≡ Ok (None, Outcome code)) }
+{
+    if !kind.takes_outcome() {
+        return None;
+    }
+    match tlvs.next() {
+        Some(Ok(tlv)) => {
+            if tlv.kind != RESULT || tlv.body.len() != 4 {
+                return None;
+            }
+            match no_more_bodies(tlvs) {
+                Ok(()) => Some(Code(tlv.body[0])),
+                _ => None,
             }
         }
         _ => None,

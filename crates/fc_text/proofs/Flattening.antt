@@ -1,8 +1,8 @@
 -- The text of nested PATH-DATA.
-use Rattle.std.proofs.Common.{◌≡◌, ℕ, List, [], ◌∷◌, ◌++◌, None, map, refl, ap, ◌∙◌, rules}
+use Rattle.std.proofs.Common.{◌≡◌, ℕ, List, [], ◌∷◌, ◌++◌, None, map, append-nil, refl, ap, ◌∙◌, rules}
 use Rattle.std.specs.List.{flat_map}
-use Rattle.fc_text.specs.Text.{AtLevel, body_at, body_text, full_text, path_line, path_text}
-use Rattle.fc_path.specs.Plain.{plain}
+use Rattle.fc_text.specs.Text.{AtLevel, body_at, body_text, code_text, full_text, path_line, path_text}
+use Rattle.fc_path.specs.Plain.{bare, ended, plain}
 use Rattle.fc_path.specs.declared.path.PathData.{PathData}
 use Rattle.fc_path.specs.declared.path.Body.{the_lemmas}
 use Rattle.fc_path.specs.declared.path.Body.TheOpen.{Body-F}
@@ -21,3 +21,14 @@ nested_text ps level = ap (λ (at : AtLevel). at level) (nested_at ps) ∙ at_al
 -- the text of a PATH-DATA with one ID, no key and a whole value
 pub plain_text : (id : ℕ) (value : List ℕ) → path_text (plain id value) 3 ≡ path_line 3 (id ∷ []) None ++ full_text 4 value
 plain_text id value = search (rules, the_lemmas)
+
+-- with nothing
+bare_lines : (id : ℕ) → path_text (bare id) 3 ≡ path_line 3 (id ∷ []) None ++ []
+bare_lines id = search (rules, the_lemmas)
+
+pub bare_text : (id : ℕ) → path_text (bare id) 3 ≡ path_line 3 (id ∷ []) None
+bare_text id = bare_lines id ∙ append-nil (path_line 3 (id ∷ []) None)
+
+-- with a result
+pub ended_text : (id code : ℕ) → path_text (ended id code) 3 ≡ path_line 3 (id ∷ []) None ++ code_text 4 code
+ended_text id code = search (rules, the_lemmas)

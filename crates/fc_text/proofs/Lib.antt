@@ -9,6 +9,7 @@ pub mod Indents
 pub mod LineSteps
 pub mod Loops
 pub mod Octets
+pub mod Pairs
 pub mod PlainWords
 pub mod ReadItems
 pub mod ReadLines

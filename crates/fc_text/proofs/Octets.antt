@@ -1,8 +1,8 @@
 -- The digits of eight bytes, one by one.
-use Rattle.std.proofs.Common.{◌≡◌, ◌/◌, ◌%◌, ◌++◌, ℕ, List, [], ◌∷◌, length, slice_index, refl, arith, sym, ap, ◌∙◌, append_assoc, ◌+◌, ◌<◌, drop, drop-cons}
+use Rattle.std.proofs.Common.{◌≡◌, ◌/◌, ◌%◌, ◌++◌, ℕ, List, [], ◌∷◌, length, slice_index, codes, decimal, None, append-nil, refl, arith, sym, ap, ◌∙◌, append_assoc, ◌+◌, ◌<◌, drop, drop-cons}
 use Rattle.std.proofs.lemmas.Grind.{flat_map-append}
 use Rattle.fc_base.specs.Hex.{hex, hex_digit}
-use Rattle.fc_text.specs.Text.{hex_text}
+use Rattle.fc_text.specs.Text.{hex_text, full_text, path_line}
 
 pub hex_text_8 : (xs : List ℕ) → length xs ≡ 8 → hex_text xs ≡ hex_digit (slice_index xs 0 / 16 % 16) ∷ hex_digit (slice_index xs 0 % 16) ∷ hex_digit (slice_index xs 1 / 16 % 16) ∷ hex_digit (slice_index xs 1 % 16) ∷ hex_digit (slice_index xs 2 / 16 % 16) ∷ hex_digit (slice_index xs 2 % 16) ∷ hex_digit (slice_index xs 3 / 16 % 16) ∷ hex_digit (slice_index xs 3 % 16) ∷ hex_digit (slice_index xs 4 / 16 % 16) ∷ hex_digit (slice_index xs 4 % 16) ∷ hex_digit (slice_index xs 5 / 16 % 16) ∷ hex_digit (slice_index xs 5 % 16) ∷ hex_digit (slice_index xs 6 / 16 % 16) ∷ hex_digit (slice_index xs 6 % 16) ∷ hex_digit (slice_index xs 7 / 16 % 16) ∷ hex_digit (slice_index xs 7 % 16) ∷ []
 unfolding hex
@@ -37,3 +37,22 @@ unfolding hex
 byte_on text xs whole i lt e =
     let next : drop i xs ≡ slice_index xs i ∷ drop (i + 1) xs = search (arith, drop-cons) in
     rw append_assoc (ap (λ l. text ++ hex_text l) (sym next) ∙ e)
+
+-- the line of a value of four bytes
+pub full_4 : (xs : List ℕ) → length xs ≡ 4 → full_text 4 xs ≡ 32 ∷ 32 ∷ 32 ∷ 32 ∷ 32 ∷ 32 ∷ 32 ∷ 32 ∷ 102 ∷ 117 ∷ 108 ∷ 108 ∷ 32 ∷ hex_digit (slice_index xs 0 / 16 % 16) ∷ hex_digit (slice_index xs 0 % 16) ∷ hex_digit (slice_index xs 1 / 16 % 16) ∷ hex_digit (slice_index xs 1 % 16) ∷ hex_digit (slice_index xs 2 / 16 % 16) ∷ hex_digit (slice_index xs 2 % 16) ∷ hex_digit (slice_index xs 3 / 16 % 16) ∷ hex_digit (slice_index xs 3 % 16) ∷ 10 ∷ []
+unfolding hex full_text
+full_4 (x0 ∷ x1 ∷ x2 ∷ x3 ∷ []) e = refl
+full_4 [] e = absurd (omega arith)
+full_4 (x0 ∷ []) e = absurd (omega arith)
+full_4 (x0 ∷ x1 ∷ []) e = absurd (omega arith)
+full_4 (x0 ∷ x1 ∷ x2 ∷ []) e = absurd (omega arith)
+full_4 (x0 ∷ x1 ∷ x2 ∷ x3 ∷ x4 ∷ xs) e = absurd (omega arith)
+
+-- the line of one ID
+pub id_line : (id : ℕ) → path_line 3 (id ∷ []) None ≡ codes "      path " ++ (decimal id ++ codes "\n")
+unfolding path_line
+id_line id = ap (λ l. codes "      path " ++ (l ++ codes "\n")) (append-nil (decimal id))
+
+-- three pieces, one appended after the other
+pub three : (old a b c first second new : List ℕ) → first ≡ old ++ a → second ≡ first ++ b → new ≡ second ++ c → new ≡ old ++ (a ++ (b ++ c))
+three old a b c first second new f s n = rw (n, s, f) (append_assoc (old ++ a) b c ∙ append_assoc old a (b ++ c))

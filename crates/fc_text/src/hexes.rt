@@ -5,20 +5,28 @@ ghost use Rattle.fc_text.specs.Text.{hex_text, bytes_text};
 
 use fc_base::Memory;
 
+// The two digits of each byte, one byte after the other.
+const PAIRS: [u8; 512] = *b"000102030405060708090A0B0C0D0E0F101112131415161718191A1B1C1D1E1F\
+    202122232425262728292A2B2C2D2E2F303132333435363738393A3B3C3D3E3F\
+    404142434445464748494A4B4C4D4E4F505152535455565758595A5B5C5D5E5F\
+    606162636465666768696A6B6C6D6E6F707172737475767778797A7B7C7D7E7F\
+    808182838485868788898A8B8C8D8E8F909192939495969798999A9B9C9D9E9F\
+    A0A1A2A3A4A5A6A7A8A9AAABACADAEAFB0B1B2B3B4B5B6B7B8B9BABBBCBDBEBF\
+    C0C1C2C3C4C5C6C7C8C9CACBCCCDCECFD0D1D2D3D4D5D6D7D8D9DADBDCDDDEDF\
+    E0E1E2E3E4E5E6E7E8E9EAEBECEDEEEFF0F1F2F3F4F5F6F7F8F9FAFBFCFDFEFF";
+
 #[inline(always)]
 fn high(byte: u8) -> u8
     ensures { result ≡ hex_digit (byte / 16 % 16) }
 {
-    let d = byte / 16;
-    if d < 10 { b'0' + d } else { b'A' - 10 + d }
+    PAIRS[2 * usize::from(byte)]
 }
 
 #[inline(always)]
 fn low(byte: u8) -> u8
     ensures { result ≡ hex_digit (byte % 16) }
 {
-    let d = byte % 16;
-    if d < 10 { b'0' + d } else { b'A' - 10 + d }
+    PAIRS[2 * usize::from(byte) + 1]
 }
 
 /// The two digits of a byte.
@@ -28,6 +36,40 @@ pub fn two_digits(byte: u8) -> [u8; 2]
     ensures { result ≡ hex 2 byte }
 {
     [high(byte), low(byte)]
+}
+
+/// The eight digits of a number.
+#[inline(always)]
+pub fn eight_digits(n: u32) -> [u8; 8]
+    ensures { result ≡ hex 8 n }
+{
+    let first = (n >> 24) as u8;
+    let second = ((n >> 16) % 256) as u8;
+    let third = ((n >> 8) % 256) as u8;
+    let last = (n % 256) as u8;
+    [
+        high(first),
+        low(first),
+        high(second),
+        low(second),
+        high(third),
+        low(third),
+        high(last),
+        low(last),
+    ]
+}
+
+/// The sixteen digits of a number.
+#[inline(always)]
+pub fn sixteen_digits(n: u64) -> [u8; 16]
+    ensures { result ≡ hex 16 n }
+{
+    let a = eight_digits((n >> 32) as u32);
+    let b = eight_digits((n % 0x1_0000_0000) as u32);
+    [
+        a[0], a[1], a[2], a[3], a[4], a[5], a[6], a[7], b[0], b[1], b[2], b[3], b[4], b[5], b[6],
+        b[7],
+    ]
 }
 
 #[inline(always)]
@@ -54,8 +96,9 @@ fn digits_of(b: &[u8; 8]) -> [u8; 16]
     ]
 }
 
+/// The digits of four bytes.
 #[inline(always)]
-fn digits_of_four(b: &[u8; 4]) -> [u8; 8]
+pub fn digits_of_four(b: &[u8; 4]) -> [u8; 8]
     ensures { result ≡ hex_text b.now }
 {
     [

@@ -1,12 +1,12 @@
 // Messages to text.
-ghost use Rattle.std.specs.Prelude.{◌≡◌, ◌++◌, ◌+◌, OnOk, IfOk};
+ghost use Rattle.std.specs.Prelude.{◌≡◌, ◌++◌, ◌+◌, ◌∷◌, [], None, OnOk, IfOk};
 ghost use Rattle.std.specs.List.{flat_map};
 ghost use Rattle.fc_text.specs.Text.{body_text, code_text, content_text, fields_text, full_text, head_text, id_text, ilv_text, indent, key_text, message_text, number_text, oper_line, oper_text, path_line, path_text, response_text, select_line, select_text, selects_text, sparse_text};
 
 use crate::decimal::push_decimal;
-use crate::hexes::{push_word, two_digits};
+use crate::hexes::{digits_of_four, eight_digits, push_word, sixteen_digits, two_digits};
 use crate::names::{message_name, operation_name};
-use fc_base::{Code, Memory, eight_digits, sixteen_digits};
+use fc_base::{Code, Memory};
 use fc_msg::{Message, MsgBody};
 use fc_path::{Body, Key, Oper, PathData, Select};
 use fc_wire::Ilv;
@@ -33,7 +33,7 @@ fn push_head(into: &mut Vec<u8>, message: &Message) -> Result<(), Memory>
 }
 
 /// What stands in that line behind the name.
-#[inline(always)]
+#[inline(never)]
 pub fn fields(message: &Message) -> [u8; 64]
     ensures { result ≡ fields_text message.now }
 {
@@ -206,9 +206,9 @@ fn push_spaces(into: &mut Vec<u8>, level: usize) -> Result<(), Memory>
     Ok(())
 }
 
-// The line of a code.
+/// The line of a code.
 #[tactic(auto, unfolding(crate::specs::Text::code_text))]
-fn push_code(into: &mut Vec<u8>, level: usize, code: Code) -> Result<(), Memory>
+pub fn push_code(into: &mut Vec<u8>, level: usize, code: Code) -> Result<(), Memory>
     ensures { OnOk result (into.new.items ≡ into.old.items ++ code_text level code) }
 {
     push_indent(into, level)?;
@@ -312,6 +312,42 @@ pub fn push_full(into: &mut Vec<u8>, level: usize, value: &[u8]) -> Result<(), M
     into.extend_from_slice(b"full ")?;
     push_word(into, value)?;
     into.push(b'\n')?;
+    Ok(())
+}
+
+// The line of a whole value of four bytes, at the fourth level.
+#[inline(always)]
+fn four_bytes(value: &[u8; 4]) -> [u8; 22]
+    ensures { result ≡ full_text 4 value.now }
+{
+    let d = digits_of_four(value);
+    [
+        b' ', b' ', b' ', b' ', b' ', b' ', b' ', b' ', b'f', b'u', b'l', b'l', b' ', d[0], d[1],
+        d[2], d[3], d[4], d[5], d[6], d[7], b'\n',
+    ]
+}
+
+/// The line of a whole value at the fourth level. That of four bytes, which is met most, is appended at once.
+#[inline(always)]
+pub fn push_value(into: &mut Vec<u8>, value: &[u8]) -> Result<(), Memory>
+    ensures { OnOk result (into.new.items ≡ into.old.items ++ full_text 4 value.now) }
+{
+    if let Some((four, more)) = value.split_first_chunk::<4>() {
+        if more.is_empty() {
+            into.extend_from_slice(&four_bytes(four))?;
+            return Ok(());
+        }
+    }
+    push_full(into, 4, value)
+}
+
+/// The line of a PATH-DATA with one ID and no key, at the third level.
+pub fn push_id_line(into: &mut Vec<u8>, id: u32) -> Result<(), Memory>
+    ensures { OnOk result (into.new.items ≡ into.old.items ++ path_line 3 (id ∷ []) None) }
+{
+    into.extend_from_slice(b"      path ")?;
+    push_decimal(into, id)?;
+    into.extend_from_slice(b"\n")?;
     Ok(())
 }
 

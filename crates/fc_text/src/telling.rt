@@ -1,7 +1,7 @@
 // Reads the operations of messages and appends the text of each part as soon as it is read.
 ghost use Rattle.std.specs.Prelude.{◌≡◌, ◌≤◌, ◌<◌, ◌+◌, ◌%◌, ◌^◌, ◌++◌, length, OnOk};
 ghost use Rattle.std.specs.List.{flat_map};
-ghost use Rattle.fc_path.specs.Plain.{plain};
+ghost use Rattle.fc_path.specs.Plain.{bare, ended, plain};
 ghost use Rattle.fc_path.specs.Stray.{misplaced as is_misplaced};
 ghost use Rattle.fc_path.specs.Reading.{each_in, some_in, path_or, path_at, oper_at, operation_at, select_at};
 ghost use Rattle.fc_path.specs.declared.kinds.Operation.TheVariants.{Paths};
@@ -9,10 +9,10 @@ ghost use Rattle.fc_text.specs.Text.{oper_text, path_text, select_text, selects_
 ghost use Rattle.fc_text.specs.Appending.{Tells};
 
 use crate::message::{
-    push_full, push_line, push_path, push_path_line, push_response, push_select_line,
+    push_code, push_id_line, push_line, push_path, push_response, push_select_line, push_value,
 };
 use crate::names::operation_name;
-use fc_base::Memory;
+use fc_base::{Code, Memory};
 use fc_path::{
     OperKind, Operation, PathData, PathFault, SELECT, are_bytes, holds_selects, is_known_in_select,
     misplaced, operation_for, read_only_outcome,
@@ -39,9 +39,49 @@ fn tell_any_path(
 fn push_plain(into: &mut Vec<u8>, id: u32, value: &[u8]) -> Result<(), Memory>
     ensures { OnOk result (into.new.items ≡ into.old.items ++ path_text (plain id value.now) 3) }
 {
-    push_path_line(into, 3, &[id], &None)?;
-    push_full(into, 4, value)?;
+    push_id_line(into, id)?;
+    push_value(into, value)?;
     Ok(())
+}
+
+// The line of a PATH-DATA with one ID, no key and no body.
+#[inline(always)]
+fn push_bare(into: &mut Vec<u8>, id: u32) -> Result<(), Memory>
+    ensures { OnOk result (into.new.items ≡ into.old.items ++ path_text (bare id) 3) }
+{
+    push_id_line(into, id)
+}
+
+// The lines of a PATH-DATA with one ID, no key and a result.
+#[inline(always)]
+fn push_ended(into: &mut Vec<u8>, id: u32, code: Code) -> Result<(), Memory>
+    ensures { OnOk result (into.new.items ≡ into.old.items ++ path_text (ended id code) 3) }
+{
+    push_id_line(into, id)?;
+    push_code(into, 4, code)?;
+    Ok(())
+}
+
+// The PATH-DATA of an operation, where it has no whole value.
+fn tell_other_path(
+    alloc: Global,
+    into: &mut Vec<u8>,
+    kind: OperKind,
+    tlv: &Tlv,
+) -> Result<(), PathFault>
+    ensures { Tells result (path_or is_misplaced (path_at kind 16) tlv.now) (λ path. path_text path 3) into.old.items into.new.items }
+{
+    if let Some(id) = PathData::read_bare(kind, tlv) {
+        push_bare(into, id)?;
+        return Ok(());
+    }
+    match PathData::read_ended(kind, tlv) {
+        Some((id, code)) => {
+            push_ended(into, id, code)?;
+            Ok(())
+        }
+        None => tell_any_path(alloc, into, kind, tlv),
+    }
 }
 
 // The PATH-DATA of an operation.
@@ -53,7 +93,7 @@ fn tell_path(alloc: Global, into: &mut Vec<u8>, kind: OperKind, tlv: &Tlv) -> Re
             push_plain(into, id, value)?;
             Ok(())
         }
-        None => tell_any_path(alloc, into, kind, tlv),
+        None => tell_other_path(alloc, into, kind, tlv),
     }
 }
 

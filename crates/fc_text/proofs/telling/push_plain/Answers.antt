@@ -7,4 +7,4 @@ pub returns : goal.returns
 returns c =
     let old = c.args.into.now.items in
     let value = c.args.value.now in
-    c.in_ok-push_full.ensures ∙ ap (λ l. l ++ full_text 4 value) c.in_ok-push_path_line.ensures ∙ append_assoc old _ (full_text 4 value) ∙ ap (λ l. old ++ l) (sym (plain_text c.args.id value))
+    c.in_ok-push_value.ensures ∙ ap (λ l. l ++ full_text 4 value) c.in_ok-push_id_line.ensures ∙ append_assoc old _ (full_text 4 value) ∙ ap (λ l. old ++ l) (sym (plain_text c.args.id value))
