@@ -1,5 +1,5 @@
 -- The table of the two digits of each byte, and the digits of numbers byte by byte.
-use Rattle.std.proofs.Common.{◌≡◌, ◌<◌, ◌+◌, ◌*◌, ◌/◌, ◌%◌, ℕ, zero, suc, List, [], ◌∷◌, slice_index_or, refl, sym, ap, ◌∙◌, arith}
+use Rattle.std.proofs.Common.{◌≡◌, ◌<◌, ◌+◌, ◌*◌, ◌/◌, ◌%◌, ℕ, zero, suc, List, [], ◌∷◌, slice_index_or, ap, ◌∙◌, arith}
 use Rattle.fc_base.specs.Hex.{hex, hex_digit}
 use Rattle.fc_base.proofs.Hexes.{hex_8, hex_16}
 
