@@ -29,7 +29,7 @@ use Rattle.fc_msg.specs.Reading.{Tells, fields_in, flags_in, message_in, unless_
 use Rattle.fc_msg.proofs.Bodies.{body_is, body_of, body_proper, body_read, has_place}
 
 -- the fields of a message stand in its header
-has_flags : (word : ℕ) → HasFlags (flags_in word) word
+pub has_flags : (word : ℕ) → HasFlags (flags_in word) word
 has_flags word = record {
   acknowledgement = refl;
   priority = refl;
@@ -266,7 +266,7 @@ u64_small : (bytes : List ℕ) (i : ℕ) → AreBytes bytes → u64_at bytes i <
 u64_small bytes i fine =
     omega (arith, byte_small bytes i fine, byte_small bytes (i + 1) fine, byte_small bytes (i + 2) fine, byte_small bytes (i + 3) fine, byte_small bytes (i + 4) fine, byte_small bytes (i + 5) fine, byte_small bytes (i + 6) fine, byte_small bytes (i + 7) fine)
 
-flags_fit : (f : FlagValues) (word : ℕ) → word < 2 ^ 32 → HasFlags f word → FlagsFit f
+pub flags_fit : (f : FlagValues) (word : ℕ) → word < 2 ^ 32 → HasFlags f word → FlagsFit f
 flags_fit f word small is = (omega (arith, is.acknowledgement), omega (arith, is.priority), omega (arith, is.mode), omega (arith, is.phase))
 
 pub proper : (m : Message) (bytes : List ℕ) → AreBytes bytes → Spells m bytes → IsProper m

@@ -1,17 +1,15 @@
 -- What encoding appends.
-use Rattle.std.proofs.Common.{◌≡◌, ◌<◌, ◌≤◌, ◌&&◌, nat_lt, Bool, true, false, ℕ, List, [], ◌++◌, length, Result, Ok, Err, OnOk, arith, refl, ap, ◌∙◌}
+use Rattle.std.proofs.Common.{◌≡◌, ◌<◌, ◌≤◌, ◌&&◌, nat_lt, Bool, true, false, ℕ, List, [], ◌++◌, length, Some, Result, Ok, Err, OnOk, arith, ap, ◌∙◌}
 use Rattle.std.specs.Result.{IsErrOf}
 use Rattle.fc_base.specs.declared.faults.WriteFault.{WriteFault}
 use Rattle.fc_base.specs.declared.faults.WriteFault.TheVariants as faults
 use Rattle.fc_wire.specs.Writing.{Writing, writing}
 use Rattle.fc_path.specs.Canon.{Pushed, Written}
-use Rattle.fc_msg.specs.Messages.{body_written, canonical, message_fits, with_body}
+use Rattle.fc_msg.proofs.Canonical.{spelled}
+use Rattle.fc_msg.proofs.Reading.{read}
+use Rattle.fc_msg.specs.Messages.{IsProper, body_written, canonical, message_fits, with_body}
+use Rattle.fc_msg.specs.Reading.{message_in}
 use Rattle.fc_msg.specs.declared.message.Message.{Message}
-
--- a select that was not written
-pub fails_by : (e : WriteFault) (w : Written) (old new : Writing) → (IsErrOf {T = Unit {0}} (Err e) faults.TooLong → w.fits ≡ false) → Pushed (Err e) old new w
-fails_by faults.TooLong w old new h = h refl
-fails_by faults.Memory w old new h = tt
 
 long_of : (n : ℕ) (f : Bool) → f ≡ false → (nat_lt n 262117 && f) ≡ false
 long_of n f e = grind arith
@@ -47,3 +45,9 @@ pub given_ok : (r : Result (Unit {0}) WriteFault) (m : Message) (body new old : 
     → OnOk r ((message_fits m ≡ true) × (new ≡ old ++ canonical m))
 given_ok (Ok x) m body new old h is = (is.0, h ∙ ap (λ l. old ++ l) is.1)
 given_ok (Err e) m body new old h is = tt
+
+-- what is appended is read as the message
+pub given_again : (r : Result (Unit {0}) WriteFault) (m : Message) (body new old : List ℕ) → OnOk r (new ≡ old ++ with_body m body) → (message_fits m ≡ true) × (with_body m body ≡ canonical m)
+    → IsProper m → OnOk r (message_in (canonical m) ≡ Some m)
+given_again (Ok x) m body new old h is proper = read m (canonical m) (spelled m proper is.0)
+given_again (Err e) m body new old h is proper = tt

@@ -100,6 +100,11 @@ body_written (QueryResponse selects) = selects_written selects
 body_written (Event selects) = selects_written selects
 body_written Heartbeat = plain []
 
+-- a header, with the length of a message that has this body, and the body
+abbrev pub framed : Header → List ℕ → List ℕ
+framed h body =
+    header_bytes (record { kind = h.kind; words = 6 + length body / 4; source = h.source; dest = h.dest; corr = h.corr; flags = h.flags }) ++ body
+
 -- the canonical bytes of a message: reserved bits and padding are zero
 abbrev pub with_body : Message → List ℕ → List ℕ
 with_body m body = header_bytes (header_of m (6 + length body / 4)) ++ body

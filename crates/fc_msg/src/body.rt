@@ -2,12 +2,9 @@
 ghost use Rattle.std.specs.Prelude.{◌≡◌};
 ghost use Rattle.fc_path.specs.Stray.{Gives};
 ghost use Rattle.fc_path.specs.Reading.{each_in, select_at, single, some_in};
-ghost use Rattle.fc_msg.specs.Bodies.{body_at, number_at, holding as body_holding};
+ghost use Rattle.fc_msg.specs.Bodies.{body_at, number_at};
 
-use crate::message::{
-    AS_REASON, AS_RESULT, CONFIG, CONFIG_RESPONSE, EVENT, HEARTBEAT, MsgBody, QUERY,
-    QUERY_RESPONSE, SETUP, SETUP_RESPONSE, TEARDOWN,
-};
+use crate::message::{AS_REASON, AS_RESULT, HEARTBEAT, MsgBody, SETUP, SETUP_RESPONSE, TEARDOWN};
 use fc_base::List;
 use fc_path::{PathFault, Select, misplaced, no_more};
 use fc_wire::{Tlv, Tlvs, read_u32};
@@ -83,20 +80,6 @@ fn read_some_selects(
     Ok(selects)
 }
 
-// The body of a type that holds these selects.
-fn holding(kind: u8, selects: List<Select>) -> MsgBody
-    ensures { result ≡ body_holding kind selects }
-{
-    match kind {
-        CONFIG => MsgBody::Config(selects),
-        CONFIG_RESPONSE => MsgBody::ConfigResponse(selects),
-        QUERY => MsgBody::Query(selects),
-        QUERY_RESPONSE => MsgBody::QueryResponse(selects),
-        EVENT => MsgBody::Event(selects),
-        _ => MsgBody::Setup(selects),
-    }
-}
-
 /// The body of a message of a type, whose TLVs go on to an end, or the first rule that it breaks.
 pub fn read_body(alloc: Global, kind: u8, tlvs: Tlvs, end: usize) -> Result<MsgBody, PathFault>
     ensures { Gives result (body_at kind end tlvs.entry.items tlvs.entry.fault) }
@@ -120,7 +103,7 @@ pub fn read_body(alloc: Global, kind: u8, tlvs: Tlvs, end: usize) -> Result<MsgB
         }
         _ => {
             let selects = read_some_selects(alloc, kind, tlvs, end)?;
-            Ok(holding(kind, selects))
+            Ok(MsgBody::holding(kind, selects))
         }
     }
 }

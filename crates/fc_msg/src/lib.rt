@@ -13,7 +13,7 @@ mod tests;
 
 pub use body::read_only_number;
 pub use decoding::{decode, headed};
-pub use encoding::encode;
+pub use encoding::{Encoder, MOST_BODY, append_framed, encode, write_number};
 pub use fault::{MsgFault, Reason, Refusal};
 pub use laws::{
     any_pieces, body_faults_are_in_reading_order, canonical_is_spelled, first_broken_rule_is_told,

@@ -1,5 +1,6 @@
 // Messages.
 ghost use Rattle.std.specs.Prelude.{◌≡◌, IfOk};
+ghost use Rattle.fc_msg.specs.Bodies.{holding as body_holding};
 ghost use Rattle.fc_msg.specs.Messages.{kind_of};
 
 use fc_base::{Duplicate, List, Memory};
@@ -94,6 +95,20 @@ impl MsgBody {
             MsgBody::QueryResponse(_) => QUERY_RESPONSE,
             MsgBody::Event(_) => EVENT,
             MsgBody::Heartbeat => HEARTBEAT,
+        }
+    }
+
+    /// The body of a type that holds these selects; of a type that holds none, that of an AssociationSetup.
+    pub fn holding(kind: u8, selects: List<Select>) -> MsgBody
+        ensures { result ≡ body_holding kind selects }
+    {
+        match kind {
+            CONFIG => MsgBody::Config(selects),
+            CONFIG_RESPONSE => MsgBody::ConfigResponse(selects),
+            QUERY => MsgBody::Query(selects),
+            QUERY_RESPONSE => MsgBody::QueryResponse(selects),
+            EVENT => MsgBody::Event(selects),
+            _ => MsgBody::Setup(selects),
         }
     }
 }

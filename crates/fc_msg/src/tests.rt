@@ -1,6 +1,7 @@
 // Messages and faults whose bytes and places stand in the specification of the format.
-use crate::{Message, MsgBody, MsgFault, Reason, Refusal, Splitter, decode, encode};
-use fc_base::{Duplicate, List, SureSource, WriteFault};
+use crate::{Encoder, Message, MsgBody, MsgFault, Reason, Refusal, Splitter, decode, encode};
+use fc_base::{Duplicate, List, Memory, Octets, SureSource, WriteFault};
+use fc_path::{Body, Oper, OperKind, PathData, Select};
 use fc_wire::Flags;
 use std::alloc::{AllocError, Global};
 use std::test::Fail;
@@ -254,6 +255,50 @@ fn the_longest_message_is_taken_and_a_longer_one_refused(rt: HostRuntime) -> Res
     }
     assert_eq!(rt; encode(&message, &mut out), Err(WriteFault::TooLong));
     assert_eq!(rt; out.len(), bytes.len());
+    Ok(())
+}
+
+// A message that sets one component to a value that is too long for a TLV.
+fn too_long(alloc: Global) -> Result<Message, Memory> {
+    let mut value = Vec::new(alloc);
+    value.resize(65532, 0)?;
+    let mut ids = List::new(alloc);
+    ids.push(1)?;
+    let mut paths = List::new(alloc);
+    paths.push(PathData {
+        ids,
+        key: None,
+        body: Body::Full(Octets::from_vec(value)),
+    })?;
+    let mut opers = List::new(alloc);
+    opers.push(Oper::Paths(OperKind::Set, paths))?;
+    let mut selects = List::new(alloc);
+    selects.push(Select {
+        class: 1,
+        instance: 1,
+        opers,
+    })?;
+    Ok(message(MsgBody::Config(selects)))
+}
+
+#[test]
+fn an_encoder_forgets_what_it_encoded_before(rt: HostRuntime) -> Result<(), Fail> {
+    let alloc = rt.alloc();
+    let mut encoder = Encoder::new(alloc);
+    let mut wanted = Vec::new(alloc);
+    let mut out = Vec::new(alloc);
+    for digits in [SAMPLES[8], SAMPLES[2], SAMPLES[0], SAMPLES[5]] {
+        let bytes = bytes_of(alloc, digits)?;
+        let message = decode(alloc, bytes.as_slice()).ok().ok_or("a message")?;
+        wanted.extend_from_slice(bytes.as_slice())?;
+        assert_eq!(rt; encoder.encode(&message, &mut out), Ok(()));
+        assert_eq!(rt; out.as_slice(), wanted.as_slice(), "{digits}");
+        assert_eq!(rt;
+            encoder.encode(&too_long(alloc)?, &mut out),
+            Err(WriteFault::TooLong)
+        );
+        assert_eq!(rt; out.as_slice(), wanted.as_slice(), "{digits}");
+    }
     Ok(())
 }
 

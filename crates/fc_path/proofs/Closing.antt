@@ -15,7 +15,7 @@ use Rattle.fc_path.specs.declared.path.PathData.{PathData}
 use Rattle.fc_path.specs.declared.path.Body.{the_lemmas}
 use Rattle.fc_path.specs.declared.path.Body.TheVariants as v
 
-fits_yes : (n : ℕ) (f : Bool) → n < 65532 → f ≡ true → (nat_lt n 65532 && f) ≡ true
+pub fits_yes : (n : ℕ) (f : Bool) → n < 65532 → f ≡ true → (nat_lt n 65532 && f) ≡ true
 fits_yes n f h e = grind arith
 
 fits_not : (n : ℕ) (f : Bool) → 65532 ≤ n → (nat_lt n 65532 && f) ≡ false

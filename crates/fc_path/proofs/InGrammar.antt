@@ -42,10 +42,10 @@ short n f h = grind arith
 lt_of : (m n : ℕ) → nat_lt m n ≡ true → m < n
 lt_of m n h = grind arith
 
-nothing_is : body_written v.Nothing ≡ plain []
+pub nothing_is : body_written v.Nothing ≡ plain []
 nothing_is = search (rules, the_lemmas)
 
-full_is : (value : List ℕ) → body_written (v.Full value) ≡ wrapped 274 (plain value)
+pub full_is : (value : List ℕ) → body_written (v.Full value) ≡ wrapped 274 (plain value)
 full_is value = search (rules, the_lemmas)
 
 sparse_is : (ilvs : List Ilv) → body_written (v.Sparse ilvs) ≡ wrapped 275 (joined (map ilv_written ilvs))

@@ -36,7 +36,7 @@ ok_same x y e = cc
 pub never : {A E : Type 0} {P : Type 0} (d : E) (y : A) → ◌≡◌ {A = Result A E} (Err d) (Ok y) → P
 never d y e = cc
 
-else_ok : {A E : Type 0} (b : Bool) (d : E) (y : Result A E) (x : A) → cond b (Err d) y ≡ Ok x → (b ≡ false) × (y ≡ Ok x)
+pub else_ok : {A E : Type 0} (b : Bool) (d : E) (y : Result A E) (x : A) → cond b (Err d) y ≡ Ok x → (b ≡ false) × (y ≡ Ok x)
 else_ok true d y x e = never d x e
 else_ok false d y x e = (refl, e)
 
@@ -44,7 +44,7 @@ pub then_ok : {A E : Type 0} (b : Bool) (d : E) (y : Result A E) (x : A) → con
 then_ok true d y x e = (refl, e)
 then_ok false d y x e = never d x e
 
-chosen : {A : Type 0} (b : Bool) (x y z : A) → cond b x y ≡ z → ((b ≡ true) × (x ≡ z)) ⊎ ((b ≡ false) × (y ≡ z))
+pub chosen : {A : Type 0} (b : Bool) (x y z : A) → cond b x y ≡ z → ((b ≡ true) × (x ≡ z)) ⊎ ((b ≡ false) × (y ≡ z))
 chosen true x y z e = inl (refl, e)
 chosen false x y z e = inr (refl, e)
 
@@ -52,11 +52,11 @@ pub bind_ok : {A B : Type 0} (r : Result A PathFault) (f : A → Result B PathFa
 bind_ok (Ok x) f y e = (x, refl, e)
 bind_ok (Err d) f y e = never d y e
 
-both : (a b : Bool) → (a && b) ≡ true → (a ≡ true) × (b ≡ true)
+pub both : (a b : Bool) → (a && b) ≡ true → (a ≡ true) × (b ≡ true)
 both true b e = (refl, e)
 both false b e = cc
 
-neither : (a b : Bool) → (a || b) ≡ false → (a ≡ false) × (b ≡ false)
+pub neither : (a b : Bool) → (a || b) ≡ false → (a ≡ false) × (b ≡ false)
 neither true b e = cc
 neither false b e = (refl, e)
 
@@ -279,7 +279,7 @@ keyed_flags : (flags : ℕ) (key : Option Key) (front : List ℕ) → flags < 2 
 keyed_flags flags key front small (inl h) = subst (λ k. IsKeyed flags k front) (sym h.2) (eqb-true _ _ h.0, h.3)
 keyed_flags flags key front small (inr h) = subst (λ k. IsKeyed flags k front) (sym h.1) (clear flags small h.0, h.2)
 
-numbers_length : (n : ℕ) (w : List ℕ) → length (numbers n w) ≡ n
+pub numbers_length : (n : ℕ) (w : List ℕ) → length (numbers n w) ≡ n
 numbers_length zero w = refl
 numbers_length (suc n) w = ap suc (numbers_length n (drop 4 w))
 

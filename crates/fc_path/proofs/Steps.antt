@@ -1,20 +1,20 @@
 -- Reading, one step at a time.
-use Rattle.std.proofs.Common.{◌≡◌, ◌≢◌, ℕ, suc, ◌+◌, ◌*◌, ◌/◌, ◌<◌, ◌≤◌, ◌^◌, ◌==◌, ◌||◌, List, [], ◌∷◌, ◌++◌, length, drop, ◌&&◌, Bool, true, false, nat_lt, slice_index, cond, not, Option, Some, None, Result, Ok, Err, refl, sym, ap, ◌∙◌, arith, append_assoc, append-nil, subst, ne_eqb}
+use Rattle.std.proofs.Common.{◌≡◌, ◌≢◌, ℕ, suc, ◌+◌, ◌*◌, ◌/◌, ◌<◌, ◌≤◌, ◌^◌, ◌==◌, ◌||◌, List, [], ◌∷◌, ◌++◌, length, drop, Bool, true, false, nat_lt, cond, not, Option, Some, None, Result, Ok, Err, refl, sym, ap, ◌∙◌, arith, append_assoc, append-nil, subst, ne_eqb}
 use Rattle.std.specs.Bool.{beq}
 use Rattle.fc_wire.specs.Bytes.{u16_at}
 use Rattle.fc_wire.specs.Tiling.{Tiling, next_of, rest_of}
 use Rattle.fc_wire.specs.Tlvs.{TlvItem, tlvs}
 use Rattle.fc_wire.specs.declared.header.WireFault.{WireFault}
-use Rattle.fc_path.specs.Kinds.{is_known, takes_nothing, takes_full, takes_sparse, takes_outcome}
+use Rattle.fc_path.specs.Kinds.{is_known, takes_nothing}
 use Rattle.fc_path.specs.Stray.{◌>>=◌, Fails, beside, shut}
-use Rattle.fc_path.specs.Reading.{each_in, some_in, path_or, body_in, key_at, leaf_at, path_at, content_in, numbers, end_of, outcome_at}
+use Rattle.fc_path.specs.Reading.{each_in, some_in, path_or, body_in, key_at, leaf_at, path_at, content_in, numbers, end_of}
 use Rattle.fc_path.specs.declared.fault.PathFault.{PathFault}
 use Rattle.fc_path.specs.declared.fault.PathFault.TheVariants as faults
 use Rattle.fc_path.specs.declared.oper.OperKind.{OperKind}
 use Rattle.fc_path.specs.declared.path.Key.{Key}
 use Rattle.fc_path.specs.declared.path.PathData.{PathData, roll-PathData}
 use Rattle.fc_path.specs.declared.path.Body.{Body}
-use Rattle.fc_path.specs.declared.path.Body.TheVariants.{Nothing, Full, Outcome}
+use Rattle.fc_path.specs.declared.path.Body.TheVariants.{Nothing}
 
 pub fails_bind : {A B : Type 0} (e : PathFault) (r : Result A PathFault) (f : A → Result B PathFault) → Fails e r → Fails e (r >>= f)
 fails_bind (faults.Wire x) r f h = ap (λ q. q >>= f) h
@@ -130,7 +130,7 @@ content_of kind d t =
     content_in kind (path_at kind d) t.place (u16_at t.padded 0 / 2 ^ 15 == 1) (end_of t) (tlvs (t.place + 8 + 4 * u16_at t.padded 2) (drop (4 + 4 * u16_at t.padded 2) t.padded)).items
     (tlvs (t.place + 8 + 4 * u16_at t.padded 2) (drop (4 + 4 * u16_at t.padded 2) t.padded)).fault
 
-path_at_content : (kind : OperKind) (n d : ℕ) (t : TlvItem) → n ≡ suc d → 4 + 4 * u16_at t.padded 2 ≤ length t.padded
+pub path_at_content : (kind : OperKind) (n d : ℕ) (t : TlvItem) → n ≡ suc d → 4 + 4 * u16_at t.padded 2 ≤ length t.padded
     → path_at kind n t ≡ (content_of kind d t >>= λ content. Ok (roll-PathData (record { ids = numbers (u16_at t.padded 2) (drop 4 t.padded); key = content.0; body = content.1 })))
 path_at_content kind n d t e h = ap (λ m. path_at kind m t) e ∙ skip _ _ _ (neither (length t.padded) _ (omega arith) h)
 
@@ -138,7 +138,7 @@ path_at_content kind n d t e h = ap (λ m. path_at kind m t) e ∙ skip _ _ _ (n
 abbrev pub content_by : OperKind → ℕ → ℕ → Bool → ℕ → ℕ → List ℕ → Result (Option Key × Body) PathFault
 content_by kind d path keyed end place inner = content_in kind (path_at kind d) path keyed end (tlvs place inner).items (tlvs place inner).fault
 
-content_same : (kind : OperKind) (d count path end place : ℕ) (keyed : Bool) (t : TlvItem) (inner : List ℕ) → count ≡ u16_at t.padded 2 → path ≡ t.place → keyed ≡ (u16_at t.padded 0 / 2 ^ 15 == 1) → end ≡ end_of t
+pub content_same : (kind : OperKind) (d count path end place : ℕ) (keyed : Bool) (t : TlvItem) (inner : List ℕ) → count ≡ u16_at t.padded 2 → path ≡ t.place → keyed ≡ (u16_at t.padded 0 / 2 ^ 15 == 1) → end ≡ end_of t
     → place ≡ t.place + 8 + 4 * count → inner ≡ drop (4 + 4 * count) t.padded → content_by kind d path keyed end place inner ≡ content_of kind d t
 content_same kind d count path end place keyed t inner c p k e at i =
     ap (λ q. content_by kind d q keyed end place inner) p ∙ ap (λ q. content_by kind d t.place q end place inner) k ∙ ap (λ q. content_by kind d t.place (u16_at t.padded 0 / 2 ^ 15 == 1) q place inner) e
@@ -190,25 +190,9 @@ same_beq true true p q = refl
 same_beq true false p q = cc
 same_beq false b p q = cc
 
--- a whole value and nothing else
-both_true : (a b : Bool) → a ≡ true → b ≡ true → (a && b) ≡ true
-both_true true b p q = q
-both_true false b p q = cc
-
 chosen : {A : Type 0} (b : Bool) (x y : A) → b ≡ true → cond b x y ≡ x
 chosen true x y e = refl
 chosen false x y e = cc
-
-pub value_content : (kind : OperKind) (one : TlvItem → Result PathData PathFault) (path end : ℕ) (items : List TlvItem) (fault : Option WireFault) (t : TlvItem) (rest : Tiling TlvItem)
-    → Some (Ok t) ≡ next_of items fault → rest ≡ rest_of items fault → t.kind ≡ 274 → takes_full kind ≡ true → shut beside rest.items rest.fault ≡ Ok tt
-    → content_in kind one path false end items fault ≡ Ok (None, Full t.body)
-value_content kind one path end items fault t rest n r k takes e =
-    let p = took items fault t rest n r in
-    let other : t.kind ≢ 272 = λ same. absurd (omega (arith, k, same)) in
-    let leaf : leaf_at kind t ≡ Ok (Full t.body) = chosen (t.kind == 274 && takes_full kind) _ _ (both_true (t.kind == 274) (takes_full kind) (ap (λ n. n == 274) k) takes) in
-    ap (λ l. content_in kind one path false end l fault) p.0 ∙ ap (λ l. content_in kind one path false end (t ∷ rest.items) l) p.1
-    ∙ skip (not (is_known t.kind)) _ _ (ap (λ n. not (is_known n)) k) ∙ skip (t.kind == 273) _ _ (ap (λ n. n == 273) k)
-    ∙ ap (λ q. q >>= λ b. Ok (None, b)) (body_shut kind one end (t ∷ rest.items) rest.fault t rest (Full t.body) refl refl other leaf e)
 
 -- nothing
 pub bare_content : (kind : OperKind) (one : TlvItem → Result PathData PathFault) (path end : ℕ) (items : List TlvItem) (fault : Option WireFault)
@@ -216,18 +200,3 @@ pub bare_content : (kind : OperKind) (one : TlvItem → Result PathData PathFaul
 bare_content kind one path end [] None n takes = ap (λ q. q >>= λ b. Ok (None, b)) (chosen (takes_nothing kind) (Ok Nothing) (Err (faults.WrongBody end)) takes)
 bare_content kind one path end [] (Some f) n takes = cc
 bare_content kind one path end (x ∷ xs) fault n takes = cc
-
--- a result and nothing else
-pub code_content : (kind : OperKind) (one : TlvItem → Result PathData PathFault) (path end : ℕ) (items : List TlvItem) (fault : Option WireFault) (t : TlvItem) (rest : Tiling TlvItem)
-    → Some (Ok t) ≡ next_of items fault → rest ≡ rest_of items fault → t.kind ≡ 276 → length t.body ≡ 4 → takes_outcome kind ≡ true → shut beside rest.items rest.fault ≡ Ok tt
-    → content_in kind one path false end items fault ≡ Ok (None, Outcome (slice_index t.body 0))
-code_content kind one path end items fault t rest n r k four takes e =
-    let p = took items fault t rest n r in
-    let other : t.kind ≢ 272 = λ same. absurd (omega (arith, k, same)) in
-    let code : outcome_at t ≡ Ok (slice_index t.body 0) = chosen (length t.body == 4) _ _ (ap (λ n. n == 4) four) in
-    let leaf : leaf_at kind t ≡ Ok (Outcome (slice_index t.body 0)) =
-    skip (t.kind == 274 && takes_full kind) _ _ (ap (λ n. n == 274 && takes_full kind) k) ∙ skip (t.kind == 275 && takes_sparse kind) _ _ (ap (λ n. n == 275 && takes_sparse kind) k)
-    ∙ chosen (t.kind == 276 && takes_outcome kind) _ _ (both_true (t.kind == 276) (takes_outcome kind) (ap (λ n. n == 276) k) takes) ∙ ap (λ q. q >>= λ code. Ok (Outcome code)) code in
-    ap (λ l. content_in kind one path false end l fault) p.0 ∙ ap (λ l. content_in kind one path false end (t ∷ rest.items) l) p.1
-    ∙ skip (not (is_known t.kind)) _ _ (ap (λ n. not (is_known n)) k) ∙ skip (t.kind == 273) _ _ (ap (λ n. n == 273) k)
-    ∙ ap (λ q. q >>= λ b. Ok (None, b)) (body_shut kind one end (t ∷ rest.items) rest.fault t rest (Outcome (slice_index t.body 0)) refl refl other leaf e)

@@ -29,3 +29,4 @@ pub use results::fits_results;
 pub use stray::{
     FULL_DATA, PATH_DATA, SELECT, is_known_in_select, misplaced, no_more, no_more_bodies,
 };
+pub use write::{put_ids, put_u32, write_leaf, write_outcome, write_response};

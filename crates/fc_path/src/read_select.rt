@@ -1,11 +1,11 @@
 // Reading operations and selects, with the first fault in reading order.
-ghost use Rattle.std.specs.Prelude.{◌≡◌, ◌%◌, ◌+◌, ◌<◌, ◌≤◌, ◌^◌, ◌++◌, ℕ, false, None, Ok, Result, length, IfOk, IfSome};
+ghost use Rattle.std.specs.Prelude.{◌≡◌, ◌≢◌, ◌%◌, ◌+◌, ◌<◌, ◌≤◌, ◌^◌, ◌++◌, ℕ, List as Items, false, None, Ok, Result, length, IfOk, IfSome, IfNone};
 ghost use Rattle.fc_path.specs.Stray.{Gives, misplaced as is_misplaced};
 ghost use Rattle.fc_wire.specs.Bytes.{AreBytes};
 ghost use Rattle.fc_path.specs.Grammar.{IsSelectOf};
 ghost use Rattle.fc_path.specs.declared.oper.Select.{Select as Selected};
 ghost use Rattle.fc_path.specs.Reading.{some_in, path_or, path_at, content_in, end_of, oper_at, operation_at, select_at};
-ghost use Rattle.fc_path.specs.Plain.{plain, bare, ended, with_id};
+ghost use Rattle.fc_path.specs.Plain.{valued, bare, ended, with_id, behind, only_of};
 ghost use Rattle.fc_path.specs.declared.fault.PathFault.{PathFault as Fault};
 ghost use Rattle.fc_path.specs.declared.path.PathData.{PathData as Path};
 ghost use Rattle.fc_path.specs.declared.path.Body.{Body as Held};
@@ -15,9 +15,7 @@ ghost use Rattle.fc_wire.specs.Tlvs.{TlvItem};
 
 use crate::kinds::{Operation, holds_selects, operation_for};
 use crate::read_path::{read_only_outcome, read_path};
-use crate::stray::{
-    FULL_DATA, PATH_DATA, RESULT, SELECT, is_known_in_select, misplaced, no_more_bodies,
-};
+use crate::stray::{FULL_DATA, PATH_DATA, RESULT, SELECT, is_known_in_select, misplaced};
 use crate::{Oper, OperKind, PathData, PathFault, Select};
 use fc_base::{Code, List};
 use fc_wire::{Tlv, Tlvs, WireFault, read_u16, read_u32};
@@ -165,20 +163,22 @@ impl PathData {
         read_path(alloc, kind, DEPTH, tlv)
     }
 
-    /// The ID and the value of a PATH-DATA of an operation that has one ID, no key and a whole value, which takes no
-    /// memory. `None` tells nothing of the TLV.
+    /// The ID and the value of a PATH-DATA of an operation, which takes no memory; `None` exactly where the TLV is no
+    /// PATH-DATA that has one ID, no key and a whole value.
     pub fn read_plain<'a>(kind: OperKind, tlv: &Tlv<'a>) -> Option<(u32, &'a [u8])>
-        ensures { IfSome result (λ x. path_or is_misplaced (path_at kind 16) tlv.now ≡ Ok (plain x.0 x.1.now)) }
+        ensures found { IfSome result (λ x. path_or is_misplaced (path_at kind 16) tlv.now ≡ Ok (valued x.0 x.1.now)) }
+        ensures none { IfNone result ((id : ℕ) (value : Items ℕ) → path_or is_misplaced (path_at kind 16) tlv.now ≢ Ok (valued id value)) }
     {
         let (id, tlvs) = behind_id(tlv)?;
         let value = only_value(kind, tlvs)?;
         Some((id, value))
     }
 
-    /// The ID of a PATH-DATA of an operation that has one ID, no key and no body, which takes no memory. `None` tells
-    /// nothing of the TLV.
+    /// The ID of a PATH-DATA of an operation, which takes no memory; `None` exactly where the TLV is no PATH-DATA that
+    /// has one ID, no key and no body.
     pub fn read_bare(kind: OperKind, tlv: &Tlv) -> Option<u32>
-        ensures { IfSome result (λ id. path_or is_misplaced (path_at kind 16) tlv.now ≡ Ok (bare id)) }
+        ensures found { IfSome result (λ id. path_or is_misplaced (path_at kind 16) tlv.now ≡ Ok (bare id)) }
+        ensures none { IfNone result ((id : ℕ) → path_or is_misplaced (path_at kind 16) tlv.now ≢ Ok (bare id)) }
     {
         let (id, mut tlvs) = behind_id(tlv)?;
         if !kind.takes_nothing() {
@@ -190,10 +190,11 @@ impl PathData {
         }
     }
 
-    /// The ID and the code of a PATH-DATA of an operation that has one ID, no key and a result, which takes no memory.
-    /// `None` tells nothing of the TLV.
+    /// The ID and the code of a PATH-DATA of an operation, which takes no memory; `None` exactly where the TLV is no
+    /// PATH-DATA that has one ID, no key and a result.
     pub fn read_ended(kind: OperKind, tlv: &Tlv) -> Option<(u32, Code)>
-        ensures { IfSome result (λ x. path_or is_misplaced (path_at kind 16) tlv.now ≡ Ok (ended x.0 x.1)) }
+        ensures found { IfSome result (λ x. path_or is_misplaced (path_at kind 16) tlv.now ≡ Ok (ended x.0 x.1)) }
+        ensures none { IfNone result ((id code : ℕ) → path_or is_misplaced (path_at kind 16) tlv.now ≢ Ok (ended id code)) }
     {
         let (id, tlvs) = behind_id(tlv)?;
         let code = only_code(kind, tlvs)?;
@@ -204,7 +205,8 @@ impl PathData {
 // The ID of a PATH-DATA that has one and no key, and the TLVs behind it.
 #[inline(always)]
 fn behind_id<'a>(tlv: &Tlv<'a>) -> Option<(u32, Tlvs<'a>)>
-    ensures { IfSome result (λ x. (kind : Kind) (body : Held) → content_in kind (path_at kind 15) tlv.now.place false (end_of tlv.now) x.1.items x.1.fault ≡ Ok (None, body) → path_or is_misplaced (path_at kind 16) tlv.now ≡ Ok (with_id x.0 body)) }
+    ensures found { IfSome result (λ x. (kind : Kind) → path_or is_misplaced (path_at kind 16) tlv.now ≡ behind x.0 (content_in kind (path_at kind 15) tlv.now.place false (end_of tlv.now) x.1.items x.1.fault)) }
+    ensures none { IfNone result ((kind : Kind) (id : ℕ) (body : Held) → path_or is_misplaced (path_at kind 16) tlv.now ≢ Ok (with_id id body)) }
 {
     let padded = tlv.padded();
     if tlv.kind != PATH_DATA || padded.len() < 8 {
@@ -218,48 +220,46 @@ fn behind_id<'a>(tlv: &Tlv<'a>) -> Option<(u32, Tlvs<'a>)>
     Some((read_u32(numbers, 0), Tlvs::over(inner, tlv.place + 12)))
 }
 
+// The TLV that is left, where there is one and nothing else.
+#[inline(always)]
+fn only<'a>(mut tlvs: Tlvs<'a>) -> Option<Tlv<'a>>
+    ensures { result ≡ only_of tlvs.entry.items tlvs.entry.fault }
+{
+    let tlv = match tlvs.next() {
+        Some(Ok(tlv)) => tlv,
+        Some(Err(_)) => return None,
+        None => return None,
+    };
+    match tlvs.next() {
+        None => Some(tlv),
+        Some(_) => None,
+    }
+}
+
 // The value that a PATH-DATA without key holds, where it holds a whole value and nothing else.
 #[inline(always)]
-fn only_value<'a>(kind: OperKind, mut tlvs: Tlvs<'a>) -> Option<&'a [u8]>
-    ensures { IfSome result (λ value. (one : TlvItem → Result Path Fault) (path end : ℕ) → content_in kind one path false end tlvs.entry.items tlvs.entry.fault ≡ Ok (None, Full value.now)) }
+fn only_value<'a>(kind: OperKind, tlvs: Tlvs<'a>) -> Option<&'a [u8]>
+    ensures found { IfSome result (λ value. (one : TlvItem → Result Path Fault) (path end : ℕ) → content_in kind one path false end tlvs.entry.items tlvs.entry.fault ≡ Ok (None, Full value.now)) }
+    ensures none { IfNone result ((one : TlvItem → Result Path Fault) (path end : ℕ) (value : Items ℕ) → content_in kind one path false end tlvs.entry.items tlvs.entry.fault ≢ Ok (None, Full value)) }
 {
-    if !kind.takes_full() {
+    let tlv = only(tlvs)?;
+    if tlv.kind != FULL_DATA || !kind.takes_full() {
         return None;
     }
-    match tlvs.next() {
-        Some(Ok(tlv)) => {
-            if tlv.kind != FULL_DATA {
-                return None;
-            }
-            match no_more_bodies(tlvs) {
-                Ok(()) => Some(tlv.body),
-                Err(_) => None,
-            }
-        }
-        _ => None,
-    }
+    Some(tlv.body)
 }
 
 // The code that a PATH-DATA without key holds, where it holds a result and nothing else.
 #[inline(always)]
-fn only_code(kind: OperKind, mut tlvs: Tlvs) -> Option<Code>
-    ensures { IfSome result (λ code. (one : TlvItem → Result Path Fault) (path end : ℕ) → content_in kind one path false end tlvs.entry.items tlvs.entry.fault ≡ Ok (None, Outcome code)) }
+fn only_code(kind: OperKind, tlvs: Tlvs) -> Option<Code>
+    ensures found { IfSome result (λ code. (one : TlvItem → Result Path Fault) (path end : ℕ) → content_in kind one path false end tlvs.entry.items tlvs.entry.fault ≡ Ok (None, Outcome code)) }
+    ensures none { IfNone result ((one : TlvItem → Result Path Fault) (path end code : ℕ) → content_in kind one path false end tlvs.entry.items tlvs.entry.fault ≢ Ok (None, Outcome code)) }
 {
-    if !kind.takes_outcome() {
+    let tlv = only(tlvs)?;
+    if tlv.kind != RESULT || tlv.body.len() != 4 || !kind.takes_outcome() {
         return None;
     }
-    match tlvs.next() {
-        Some(Ok(tlv)) => {
-            if tlv.kind != RESULT || tlv.body.len() != 4 {
-                return None;
-            }
-            match no_more_bodies(tlvs) {
-                Ok(()) => Some(Code(tlv.body[0])),
-                _ => None,
-            }
-        }
-        _ => None,
-    }
+    Some(Code(tlv.body[0]))
 }
 
 /// That the items of a slice of bytes are bytes, for proofs: it does nothing.

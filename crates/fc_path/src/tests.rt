@@ -1,7 +1,7 @@
 // Selects and faults whose bytes and places stand in the specification of the format.
 use crate::{Body, Oper, OperKind, PathData, PathFault, Select, Step, fits_results};
-use fc_base::{Duplicate, List, Memory, Octets, WriteFault};
-use fc_wire::{TlvWriter, Tlvs, WireFault};
+use fc_base::{Code, Duplicate, List, Memory, Octets, WriteFault};
+use fc_wire::{Tlv, TlvWriter, Tlvs, WireFault};
 use std::alloc::{AllocError, Global};
 use std::test::Fail;
 
@@ -509,6 +509,144 @@ fn lengths_pass_no_field(rt: HostRuntime) -> Result<(), Fail> {
             assert!(rt; answer == Err(WriteFault::TooLong));
             assert_eq!(rt; bytes.as_slice(), [1, 2, 3, 4].as_slice());
         }
+    }
+    Ok(())
+}
+
+// The first TLV of bytes, which stands at 24.
+fn first<'a>(bytes: &'a [u8]) -> Option<Tlv<'a>> {
+    if bytes.len() % 4 != 0 || bytes.len() > 1000 {
+        return None;
+    }
+    match Tlvs::over(bytes, 24).next() {
+        Some(Ok(tlv)) => Some(tlv),
+        _ => None,
+    }
+}
+
+// PATH-DATA of operations of one ID, which is 7, and no key, with a whole value, with nothing and with a result.
+const SIMPLE: [(OperKind, &str); 5] = [
+    (
+        OperKind::Set,
+        "01100014 00000001 00000007 01120005 AB000000",
+    ),
+    (
+        OperKind::GetResponse,
+        "01100011 7FFF0001 00000007 01120005 ABFFFFFF",
+    ),
+    (OperKind::Get, "0110000C 00000001 00000007"),
+    (
+        OperKind::SetResponse,
+        "01100014 00000001 00000007 01140008 15000000",
+    ),
+    (
+        OperKind::GetResponse,
+        "01100014 00000001 00000007 01140008 15FFFFFF",
+    ),
+];
+
+#[test]
+fn simple_path_data_are_read_in_place(rt: HostRuntime) -> Result<(), Fail> {
+    let alloc = rt.alloc();
+    for (at, (kind, digits)) in SIMPLE.into_iter().enumerate() {
+        let bytes = bytes_of(alloc, digits)?;
+        let tlv = first(&bytes).ok_or("a TLV")?;
+        let value: &[u8] = &[0xab];
+        let (plain, bare, ended) = match at {
+            0 | 1 => (Some((7, value)), None, None),
+            2 => (None, Some(7), None),
+            _ => (None, None, Some((7, Code(0x15)))),
+        };
+        assert!(rt; PathData::read_plain(kind, &tlv) == plain, "{digits}");
+        assert!(rt; PathData::read_bare(kind, &tlv) == bare, "{digits}");
+        assert!(rt; PathData::read_ended(kind, &tlv) == ended, "{digits}");
+    }
+    Ok(())
+}
+
+#[test]
+fn simple_path_data_are_read(rt: HostRuntime) -> Result<(), Fail> {
+    let alloc = rt.alloc();
+    for (at, (kind, digits)) in SIMPLE.into_iter().enumerate() {
+        let bytes = bytes_of(alloc, digits)?;
+        let tlv = first(&bytes).ok_or("a TLV")?;
+        let mut ids = List::new(alloc);
+        ids.push(7)?;
+        let body = match at {
+            0 | 1 => Body::Full(Octets::from_slice(alloc, &[0xab])?),
+            2 => Body::Nothing,
+            _ => Body::Outcome(Code(0x15)),
+        };
+        let key = None;
+        assert!(rt;
+            PathData::read(alloc, kind, &tlv) == Ok(PathData { ids, key, body }),
+            "{digits}"
+        );
+    }
+    Ok(())
+}
+
+#[test]
+fn other_path_data_are_not_read_in_place(rt: HostRuntime) -> Result<(), Fail> {
+    let alloc = rt.alloc();
+    // with a key, with two IDs, with none, with parts of a value, with more PATH-DATA, with a TLV behind the body, of
+    // another operation, cut off, and of another type
+    let cases: [(OperKind, &str, bool); 12] = [
+        (
+            OperKind::Set,
+            "01100024 80000001 00000007 01110010 00000001 01120008 65746830 01120005 AB000000",
+            true,
+        ),
+        (
+            OperKind::Del,
+            "0110001C 80000001 00000007 01110010 00000001 01120008 65746830",
+            true,
+        ),
+        (
+            OperKind::Set,
+            "01100018 00000002 00000007 00000008 01120005 AB000000",
+            true,
+        ),
+        (OperKind::Get, "01100010 00000002 00000007 00000008", true),
+        (OperKind::Get, "01100008 00000000", true),
+        (
+            OperKind::Set,
+            "0110001C 00000001 00000007 01130010 00000002 00000009 AB000000",
+            true,
+        ),
+        (
+            OperKind::Get,
+            "01100018 00000001 00000007 0110000C 00000001 00000008",
+            true,
+        ),
+        (
+            OperKind::Set,
+            "0110001C 00000001 00000007 01120005 AB000000 01120005 AB000000",
+            false,
+        ),
+        (
+            OperKind::SetResponse,
+            "01100014 00000001 00000007 01120005 AB000000",
+            false,
+        ),
+        (
+            OperKind::SetResponse,
+            "01100014 00000001 00000007 01140005 15000000",
+            false,
+        ),
+        (OperKind::Get, "01100008 00000001", false),
+        (OperKind::Get, "0111000C 00000001 00000007", false),
+    ];
+    for (kind, digits, taken) in cases {
+        let bytes = bytes_of(alloc, digits)?;
+        let tlv = first(&bytes).ok_or("a TLV")?;
+        assert!(rt; PathData::read_plain(kind, &tlv).is_none(), "{digits}");
+        assert!(rt; PathData::read_bare(kind, &tlv).is_none(), "{digits}");
+        assert!(rt; PathData::read_ended(kind, &tlv).is_none(), "{digits}");
+        assert!(rt;
+            PathData::read(alloc, kind, &tlv).is_ok() == taken,
+            "{digits}"
+        );
     }
     Ok(())
 }

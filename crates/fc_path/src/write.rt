@@ -18,7 +18,8 @@ fn put_u16(to: &mut TlvWriter, n: u16) -> Result<(), Memory>
     to.put(&[(n / 256) as u8, (n % 256) as u8])
 }
 
-fn put_u32(to: &mut TlvWriter, n: u32) -> Result<(), Memory>
+/// Puts a number of four bytes.
+pub fn put_u32(to: &mut TlvWriter, n: u32) -> Result<(), Memory>
     ensures { OnOk result (to.new ≡ writing (to.old.text ++ u32_bytes n) to.old.places) }
 {
     to.put(&[
@@ -29,7 +30,8 @@ fn put_u32(to: &mut TlvWriter, n: u32) -> Result<(), Memory>
     ])
 }
 
-fn put_ids(to: &mut TlvWriter, ids: &[u32]) -> Result<(), Memory>
+/// Puts IDs, each in four bytes.
+pub fn put_ids(to: &mut TlvWriter, ids: &[u32]) -> Result<(), Memory>
     ensures { OnOk result (to.new ≡ writing (to.old.text ++ flat_map u32_bytes ids.now) to.old.places) }
 {
     for id in ids {
@@ -47,8 +49,8 @@ fn put_padding(to: &mut TlvWriter, len: usize) -> Result<(), Memory>
     to.put(&zeros[..(4 - len % 4) % 4])
 }
 
-// A TLV that holds these bytes.
-fn write_leaf(to: &mut TlvWriter, kind: u16, value: &[u8]) -> Result<(), WriteFault>
+/// Writes a TLV that holds these bytes.
+pub fn write_leaf(to: &mut TlvWriter, kind: u16, value: &[u8]) -> Result<(), WriteFault>
     ensures { Pushed result to.old to.new (wrapped kind (plain value.now)) }
 {
     let begun = to.begin(kind)?;
@@ -56,8 +58,8 @@ fn write_leaf(to: &mut TlvWriter, kind: u16, value: &[u8]) -> Result<(), WriteFa
     to.end(begun)
 }
 
-// A RESULT.
-fn write_outcome(to: &mut TlvWriter, code: Code) -> Result<(), WriteFault>
+/// Writes a RESULT.
+pub fn write_outcome(to: &mut TlvWriter, code: Code) -> Result<(), WriteFault>
     ensures { Pushed result to.old to.new (result_written code) }
 {
     write_leaf(to, RESULT, &[code.0, 0, 0, 0])
@@ -170,8 +172,8 @@ fn write_operation(to: &mut TlvWriter, kind: u16, paths: &[PathData]) -> Result<
     to.end(begun)
 }
 
-// A COMMIT-RESPONSE.
-fn write_response(to: &mut TlvWriter, code: Code) -> Result<(), WriteFault>
+/// Writes a COMMIT-RESPONSE.
+pub fn write_response(to: &mut TlvWriter, code: Code) -> Result<(), WriteFault>
     ensures { Pushed result to.old to.new (wrapped 13 (result_written code)) }
 {
     let begun = to.begin(13)?;
@@ -221,5 +223,12 @@ impl Select {
         write_select(&mut apart, self)?;
         to.put(&apart.finish())?;
         Ok(())
+    }
+
+    /// Does the same in place, which takes less time. After an `Err` the writer may hold a part of the select.
+    pub fn write_in_place(&self, to: &mut TlvWriter) -> Result<(), WriteFault>
+        ensures { Pushed result to.old to.new (select_written self.now) }
+    {
+        write_select(to, self)
     }
 }

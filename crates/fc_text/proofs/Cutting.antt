@@ -1,6 +1,6 @@
 -- Where a line and a word end.
-use Rattle.std.proofs.Common.{◌≡◌, ℕ, zero, suc, ◌<◌, ◌≤◌, ◌==◌, ◌++◌, List, [], ◌∷◌, length, take, drop, get_or, Bool, true, false, cond, Option, Some, None, refl, ap, ◌∙◌, arith, ne_eqb, eq-eqb, append_assoc}
-use Rattle.fc_text.specs.LineWords.{in_front, lines_of, words_of}
+use Rattle.std.proofs.Common.{◌≡◌, ◌+◌, ℕ, zero, suc, ◌<◌, ◌≤◌, ◌==◌, ◌++◌, List, [], ◌∷◌, length, take, drop, get_or, Bool, true, false, cond, Option, Some, None, refl, ap, ◌∙◌, arith, ne_eqb, eq-eqb, append_assoc}
+use Rattle.fc_text.specs.LineWords.{HasNone, in_front, lines_of, words_of}
 use Rattle.fc_text.specs.WordValues.{digits_of, given, pairs_of}
 
 pub skip : {A : Type 0} (b : Bool) (x y : A) → b ≡ false → cond b x y ≡ y
@@ -47,3 +47,16 @@ pair_goes pair (x ∷ y ∷ rest) more done next b all h two is behind value e =
     ap (λ n. given (pairs_of more) (λ m. Some (n ++ m))) e ∙ moved done b (pairs_of more)
     ∙ ap (λ r. given (given (Some b) (λ b. given (pairs_of r) (λ bs. Some (b ∷ bs)))) (λ m. Some (done ++ m))) behind
     ∙ ap (λ o. given (given o (λ b. given (pairs_of rest) (λ bs. Some (b ∷ bs)))) (λ m. Some (done ++ m))) (value ∙ ap (digits_of 2) is) ∙ h
+
+-- one more piece has none of a byte
+taken : (n k : ℕ) (xs : List ℕ) → k < n → get_or (take n xs) k 0 ≡ get_or xs k 0
+taken zero k xs h = absurd (omega (arith, h))
+taken (suc n) k [] h = refl
+taken (suc n) zero (x ∷ xs) h = refl
+taken (suc n) (suc k) (x ∷ xs) h = taken n k xs (omega (arith, h))
+
+pub none_more : (byte : ℕ) (bytes : List ℕ) (len n : ℕ) → HasNone byte len bytes → HasNone byte n (take n (drop len bytes)) → HasNone byte (len + n) bytes
+none_more byte bytes zero n a b k h e = b k (omega (arith, h)) (taken n k bytes (omega (arith, h)) ∙ e)
+none_more byte [] (suc len) n a b k h e = a 0 (omega arith) e
+none_more byte (x ∷ xs) (suc len) n a b zero h e = a 0 (omega arith) e
+none_more byte (x ∷ xs) (suc len) n a b (suc k) h e = none_more byte xs len n (λ j l f. a (suc j) (omega (arith, l)) f) b k (omega (arith, h)) e

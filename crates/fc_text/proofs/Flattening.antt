@@ -2,7 +2,7 @@
 use Rattle.std.proofs.Common.{◌≡◌, ℕ, List, [], ◌∷◌, ◌++◌, None, map, append-nil, refl, ap, ◌∙◌, rules}
 use Rattle.std.specs.List.{flat_map}
 use Rattle.fc_text.specs.Text.{AtLevel, body_at, body_text, code_text, full_text, path_line, path_text}
-use Rattle.fc_path.specs.Plain.{bare, ended, plain}
+use Rattle.fc_path.specs.Plain.{bare, ended, valued}
 use Rattle.fc_path.specs.declared.path.PathData.{PathData}
 use Rattle.fc_path.specs.declared.path.Body.{the_lemmas}
 use Rattle.fc_path.specs.declared.path.Body.TheOpen.{Body-F}
@@ -19,8 +19,8 @@ pub nested_text : (ps : List PathData) (level : ℕ) → body_text (v.Nested ps)
 nested_text ps level = ap (λ (at : AtLevel). at level) (nested_at ps) ∙ at_all ps level
 
 -- the text of a PATH-DATA with one ID, no key and a whole value
-pub plain_text : (id : ℕ) (value : List ℕ) → path_text (plain id value) 3 ≡ path_line 3 (id ∷ []) None ++ full_text 4 value
-plain_text id value = search (rules, the_lemmas)
+pub valued_text : (id : ℕ) (value : List ℕ) → path_text (valued id value) 3 ≡ path_line 3 (id ∷ []) None ++ full_text 4 value
+valued_text id value = search (rules, the_lemmas)
 
 -- with nothing
 bare_lines : (id : ℕ) → path_text (bare id) 3 ≡ path_line 3 (id ∷ []) None ++ []

@@ -68,7 +68,7 @@ spaces_fit_by : (space : Bool) (bs : List ℕ) → spaces_before bs ≤ length b
 spaces_fit_by true bs h = omega arith
 spaces_fit_by false bs h = omega arith
 
-spaces_fit : (line : List ℕ) → spaces_before line ≤ length line
+pub spaces_fit : (line : List ℕ) → spaces_before line ≤ length line
 spaces_fit [] = omega arith
 spaces_fit (b ∷ bs) = spaces_fit_by (b == 32) bs (spaces_fit bs)
 

@@ -79,7 +79,7 @@ pub record Began (read : Result (WordsLeft × LinesLeft) TextPlace) (ws : List W
   pub is : read ≡ Ok (words_left taken end (placed column words), lines_left taken rest)
   pub each : AreEach SpellsWord ws words
 
-begin_by : (level taken : ℕ) (words rest : List (List ℕ)) (bytes : List ℕ) → 0 < length words → AllByRecursion IsWord words → bytes ≡ indent level ++ parted words
+pub begin_by : (level taken : ℕ) (words rest : List (List ℕ)) (bytes : List ℕ) → 0 < length words → AllByRecursion IsWord words → bytes ≡ indent level ++ parted words
     → line_at level (lines_left taken (bytes ∷ rest)) ≡ Ok (words_left (taken + 1) (2 * level + 1 + length (parted words)) (placed (2 * level + 1) words), lines_left (taken + 1) rest)
 unfolding line_at
 begin_by level taken words rest bytes some all e =

@@ -29,7 +29,7 @@ use Rattle.fc_text.proofs.ReadPaths.{places_read}
 use Rattle.fc_text.proofs.SplitLines.{IsWord, is_plain}
 
 -- names
-word_by : (text : List ℕ) → 0 < length text → list_all is_plain text ≡ true → IsWord text
+pub word_by : (text : List ℕ) → 0 < length text → list_all is_plain text ≡ true → IsWord text
 word_by text some plain = record { some = some; plain = plain }
 
 abbrev pub number_for : Oper → ℕ
@@ -101,7 +101,7 @@ oper_number oper.Commit = refl
 oper_number oper.Trcomp = refl
 oper_number (oper.CommitResponse code) = refl
 
-body_number : (b : MsgBody) → message_named (body_name b) ≡ Some (kind_of b)
+pub body_number : (b : MsgBody) → message_named (body_name b) ≡ Some (kind_of b)
 unfolding message_named
 body_number (Setup selects) = refl
 body_number (SetupResponse n) = refl
@@ -214,7 +214,7 @@ module _ (kind : ℕ) (ss : List Select) (texts rest : List (List ℕ)) (taken :
   some_selects : ProperSelects kind ss → Gives (some_at 1 (select_at kind 1) (lines_left taken (texts ++ rest))) ss rest
   some_selects p = some_reads (select_lines 1) (ProperSelect kind) (select_at kind 1) 1 (select_begins 1) (select_reads kind 1) ss taken texts rest p.0 p.1 h b
 
-content_read : (body : MsgBody) (texts rest : List (List ℕ)) (taken : ℕ) → ProperMsgBody body → AreEach SpellsLine (content_lines body) texts → Before 1 rest
+pub content_read : (body : MsgBody) (texts rest : List (List ℕ)) (taken : ℕ) → ProperMsgBody body → AreEach SpellsLine (content_lines body) texts → Before 1 rest
     → Gives (content_at (kind_of body) (lines_left taken (texts ++ rest))) body rest
 unfolding content_at
 content_read (Setup ss) texts rest taken p h b = let s = any_selects 1 ss texts rest taken h b p in (s.0, rw s.1 refl)
@@ -271,7 +271,7 @@ message_begins m = record { first = head_line m; more = content_lines m.body; is
 whole_same : (m : Message) (word : ℕ) → m.flags ≡ flags_in word → message_of (head_words m word) m.body ≡ m
 whole_same m word e = ap (λ (f : FlagValues). record { source = m.source; dest = m.dest; corr = m.corr; flags = f; body = m.body }) (sym e)
 
-whole_read : (m : Message) (t : List ℕ) (ts rest : List (List ℕ)) (taken : ℕ) → IsProper m → SpellsLine (head_line m) t → AreEach SpellsLine (content_lines m.body) ts → Before 1 rest
+pub whole_read : (m : Message) (t : List ℕ) (ts rest : List (List ℕ)) (taken : ℕ) → IsProper m → SpellsLine (head_line m) t → AreEach SpellsLine (content_lines m.body) ts → Before 1 rest
     → Gives (whole_at (lines_left taken (t ∷ (ts ++ rest)))) m rest
 unfolding whole_at
 whole_read m t ts rest taken p h c b =
@@ -280,7 +280,7 @@ whole_read m t ts rest taken p h c b =
     let z = shut_read body.0 rest b in
     (body.0, rw (head.2.1, body.1, z) (ap (λ m. Ok (m, lines_left body.0 rest)) (whole_same m head.0 head.1)))
 
-message_reads : (m : Message) (texts rest : List (List ℕ)) (taken : ℕ) → IsTaken m → AreEach SpellsLine (message_lines m) texts → Before 1 rest → Gives (message_at (lines_left taken (texts ++ rest))) m rest
+pub message_reads : (m : Message) (texts rest : List (List ℕ)) (taken : ℕ) → IsTaken m → AreEach SpellsLine (message_lines m) texts → Before 1 rest → Gives (message_at (lines_left taken (texts ++ rest))) m rest
 unfolding message_at
 message_reads m [] rest taken p h b = absurd h
 message_reads m (t ∷ ts) rest taken p h b =

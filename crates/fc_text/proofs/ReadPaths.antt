@@ -69,7 +69,7 @@ pub path_lines_are : (p : PathData) (level : ℕ) → path_lines p level ≡ pat
 path_lines_are p level = ap (λ (at : LinesAt). at level) (path_is p)
 
 -- its first line
-steps_named : (ids : List ℕ) (key : Option Key) → AllByRecursion Named (step_words ids key)
+pub steps_named : (ids : List ℕ) (key : Option Key) → AllByRecursion Named (step_words ids key)
 steps_named [] None = tt
 steps_named [] (Some key) = (record { some = omega arith; plain = refl }, (tt, (tt, tt)))
 steps_named (id ∷ ids) key = (tt, steps_named ids key)
@@ -91,7 +91,7 @@ module _ (inside : ℕ → Reader Body) (Q : Body → Type 0)
       let i = reads (level + 1) p.body texts rest taken q h (before_more (suc level) (level + 1) rest (omega arith) b) in
       (i.0, rw (s, i.1) refl)
 
-  path_line_read : (level : ℕ) (p : PathData) (texts rest : List (List ℕ)) (taken : ℕ) → Q p.body → AreEach SpellsLine (path_lines p level) texts → Before (suc level) rest
+  pub path_line_read : (level : ℕ) (p : PathData) (texts rest : List (List ℕ)) (taken : ℕ) → Q p.body → AreEach SpellsLine (path_lines p level) texts → Before (suc level) rest
       → Gives (path_line inside level (lines_left taken (texts ++ rest))) p rest
   unfolding path_line
   path_line_read level p texts rest taken q h b = by texts (subst (λ l. AreEach SpellsLine l texts) (path_lines_are p level) h)
@@ -164,7 +164,7 @@ with_sparse kind h = first_of_two _ _ (never_both kind) (any_second (takes_full 
 with_outcome : (kind : OperKind) → takes_outcome kind ≡ true → takes_nothing kind ≡ false
 with_outcome kind h = first_of_two _ _ (never_both kind) (any_third (takes_full kind) (takes_sparse kind) (takes_outcome kind) h)
 
-abbrev item : ℕ → List ℕ → WordItem
+abbrev pub item : ℕ → List ℕ → WordItem
 item column text = record { column = column; text = text }
 
 abbrev IsLeaf : Body-F Body PathData → Type 0
@@ -192,7 +192,7 @@ outcome_leaf kind level code n e c d ts rest taken takes h =
 ilv_begins : (level : ℕ) (ilv : Ilv) → Begins level (ilv_line level ilv ∷ [])
 ilv_begins level ilv = record { first = ilv_line level ilv; more = []; is = refl; level_is = refl; whole = ilv_whole level ilv }
 
-ilv_reads : (level : ℕ) (ilv : Ilv) (texts rest : List (List ℕ)) (taken : ℕ) → Unit {0} → AreEach SpellsLine (ilv_line level ilv ∷ []) texts → Before (suc level) rest → Gives (ilv_at level (lines_left taken (texts ++ rest))) ilv rest
+pub ilv_reads : (level : ℕ) (ilv : Ilv) (texts rest : List (List ℕ)) (taken : ℕ) → Unit {0} → AreEach SpellsLine (ilv_line level ilv ∷ []) texts → Before (suc level) rest → Gives (ilv_at level (lines_left taken (texts ++ rest))) ilv rest
 ilv_reads level ilv [] rest taken u h b = absurd h
 ilv_reads level ilv (t ∷ []) rest taken u h b = ilv_read level ilv t rest taken h.0
 ilv_reads level ilv (t ∷ s ∷ ts) rest taken u h b = absurd h.1
@@ -334,7 +334,7 @@ ProperAt kind depth b = ProperBody kind (ProperPath kind depth) (out-Body b)
 of_layer : (read : Body → Type 0) (b : Body) → read (roll-Body (out-Body b)) → read b
 of_layer read b h = subst read (roll-out-Body b) h
 
-body_read : (kind : OperKind) (depth level : ℕ) (b : Body) (texts rest : List (List ℕ)) (taken : ℕ) → ProperAt kind depth b → AreEach SpellsLine (body_lines b level) texts → Before level rest
+pub body_read : (kind : OperKind) (depth level : ℕ) (b : Body) (texts rest : List (List ℕ)) (taken : ℕ) → ProperAt kind depth b → AreEach SpellsLine (body_lines b level) texts → Before level rest
     → Gives (body_at kind depth level (lines_left taken (texts ++ rest))) b rest
 body_read kind zero level b texts rest taken proper h before =
     of_layer (λ x. Gives (body_at kind zero level (lines_left taken (texts ++ rest))) x rest) b

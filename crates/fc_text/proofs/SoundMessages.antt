@@ -12,7 +12,7 @@ use Rattle.fc_path.specs.declared.oper.OperKind.TheVariants as kinds
 use Rattle.fc_path.specs.declared.oper.Oper.{Oper}
 use Rattle.fc_path.specs.declared.oper.Oper.TheVariants as oper
 use Rattle.fc_path.specs.declared.oper.Select.{Select}
-use Rattle.fc_msg.specs.Messages.{IsProper, ProperMsgBody, message_fits}
+use Rattle.fc_msg.specs.Messages.{IsProper, ProperMsgBody, kind_of, message_fits}
 use Rattle.fc_msg.specs.Reading.{flags_in}
 use Rattle.fc_msg.specs.declared.message.Message.{Message}
 use Rattle.fc_msg.specs.declared.message.MsgBody.{MsgBody}
@@ -30,14 +30,14 @@ use Rattle.fc_text.proofs.SoundPaths.{found_none, many_sound, some_sound, places
 use Rattle.fc_text.proofs.TextLaws.{flags_fit}
 
 -- a table of names with numbers
-abbrev NameRow : Type 0
+abbrev pub NameRow : Type 0
 NameRow = List ℕ × ℕ
 
-abbrev first_in : List NameRow → List ℕ → Option ℕ
+abbrev pub first_in : List NameRow → List ℕ → Option ℕ
 first_in [] text = None
 first_in (r ∷ rs) text = cond (bytes_eq text r.0) (Some r.1) (first_in rs text)
 
-table_sound : (P : List ℕ → ℕ → Type 0) (rows : List NameRow) (text : List ℕ) (k : ℕ) → AllByRecursion (λ r. P r.0 r.1) rows → first_in rows text ≡ Some k → P text k
+pub table_sound : (P : List ℕ → ℕ → Type 0) (rows : List NameRow) (text : List ℕ) (k : ℕ) → AllByRecursion (λ r. P r.0 r.1) rows → first_in rows text ≡ Some k → P text k
 table_sound P [] text k all e = cc
 table_sound P (r ∷ rs) text k all e = by (bytes_eq text r.0) (bytes_eq-Decides text r.0).0 (table_sound P rs text k all.1) e
   where
@@ -46,15 +46,15 @@ table_sound P (r ∷ rs) text k all e = by (bytes_eq text r.0) (bytes_eq-Decides
     by false is more e = more e
 
 -- the operations
-abbrev row : List ℕ → ℕ → NameRow
+abbrev pub row : List ℕ → ℕ → NameRow
 row text k = (text, k)
 
-abbrev numbers : List NameRow
+abbrev pub numbers : List NameRow
 numbers =
     row (codes "SET") 1 ∷ row (codes "SET-PROP") 2 ∷ row (codes "SET-RESPONSE") 3 ∷ row (codes "SET-PROP-RESPONSE") 4 ∷ row (codes "DEL") 5 ∷ row (codes "DEL-RESPONSE") 6 ∷ row (codes "GET") 7
     ∷ row (codes "GET-PROP") 8 ∷ row (codes "GET-RESPONSE") 9 ∷ row (codes "GET-PROP-RESPONSE") 10 ∷ row (codes "REPORT") 11 ∷ row (codes "COMMIT") 12 ∷ row (codes "COMMIT-RESPONSE") 13 ∷ row (codes "TRCOMP") 14 ∷ []
 
-named_in_table : (text : List ℕ) → number_named text ≡ first_in numbers text
+pub named_in_table : (text : List ℕ) → number_named text ≡ first_in numbers text
 unfolding number_named
 named_in_table text = refl
 
@@ -66,13 +66,13 @@ number_sound_in : (text : List ℕ) (k : ℕ) → number_named text ≡ Some k �
 number_sound_in text k e =
     table_sound (λ t k. t ≡ name_in numbers k) numbers text k (refl, (refl, (refl, (refl, (refl, (refl, (refl, (refl, (refl, (refl, (refl, (refl, (refl, (refl, tt)))))))))))))) (sym (named_in_table text) ∙ e)
 
-abbrev type_of : Operation → ℕ
+abbrev pub type_of : Operation → ℕ
 type_of (operation.Paths kind) = number_of kind
 type_of operation.Commit = 12
 type_of operation.Trcomp = 14
 type_of operation.CommitResponse = 13
 
-abbrev name_of : Operation → List ℕ
+abbrev pub name_of : Operation → List ℕ
 name_of (operation.Paths kind) = kind_name kind
 name_of operation.Commit = codes "COMMIT"
 name_of operation.Trcomp = codes "TRCOMP"
@@ -112,13 +112,19 @@ typed_in (x ∷ xs) message n o all e = by (x.message == message) (x.kind == n) 
     by true false is more e = more e
     by false t is more e = more e
 
+pub operation_means : (message : ℕ) (text : List ℕ) (which : Operation) → operation_named message text ≡ Some which → (text ≡ name_of which) × (operation_of message (type_of which) ≡ Some which)
+unfolding operation_named
+operation_means message text which means =
+    let (k, first, more) = given_some (number_named text) (operation_of message) which means in
+    let typed = typed_in operations message k which all_typed more in
+    (number_sound_in text k first ∙ ap (name_in numbers) typed ∙ type_named which, ap (operation_of message) (sym typed) ∙ more)
+
 operation_sound : (message : ℕ) (v : WordsLeft) (which : Operation) (rest : WordsLeft) → operation_in message v ≡ Ok (which, rest) → Step (name (name_of which)) v rest × (operation_of message (type_of which) ≡ Some which)
-unfolding operation_in operation_named
+unfolding operation_in
 operation_sound message v which rest e =
     let (t, is, means) = meaning_sound (operation_named message) v which rest e in
-    let (k, first, more) = given_some (number_named t) (operation_of message) which means in
-    let typed = typed_in operations message k which all_typed more in
-    ((t, is, number_sound_in t k first ∙ ap (name_in numbers) typed ∙ type_named which), ap (operation_of message) (sym typed) ∙ more)
+    let (named, found) = operation_means message t which means in
+    ((t, is, named), found)
 
 -- what stands below the line of an operation
 abbrev IsOper : ℕ → ℕ → Oper → LinesLeft → LinesLeft → Type 0
@@ -145,7 +151,7 @@ below_sound message level operation.CommitResponse v left mid o rest taken words
     subst (λ o. IsOper message level o left rest) same
     (subst (Found (oper_lines level (oper.CommitResponse code.0)) left) behind (and_lines level (name (codes "COMMIT-RESPONSE") ∷ []) (code_line (level + 1) code.0 ∷ []) left mid code.1 v taken words line_is), is)
 
-oper_sound : (message level : ℕ) (left : LinesLeft) (o : Oper) (rest : LinesLeft) → oper_at message level left ≡ Ok (o, rest) → IsOper message level o left rest
+pub oper_sound : (message level : ℕ) (left : LinesLeft) (o : Oper) (rest : LinesLeft) → oper_at message level left ≡ Ok (o, rest) → IsOper message level o left rest
 unfolding oper_at
 oper_sound message level left o rest e =
     bind_ok (line_at level left) _ (o, rest) e λ l is1 e1.
@@ -261,16 +267,31 @@ teardown_sound left b rest e =
     let all = number_line_sound (codes "reason") left n.0 n.1 is1 in
     subst (λ b. IsContent (codes "AssociationTeardown") 2 b left rest) same (refl, subst (Found (number_line (codes "reason") n.0 ∷ []) left) behind all.0, all.1)
 
-abbrev types : List NameRow
+abbrev pub types : List NameRow
 types =
     row (codes "Heartbeat") 15 ∷ row (codes "Config") 3 ∷ row (codes "ConfigResponse") 19 ∷ row (codes "Query") 4 ∷ row (codes "QueryResponse") 20 ∷ row (codes "EventNotification") 5
     ∷ row (codes "AssociationSetup") 1 ∷ row (codes "AssociationSetupResponse") 17 ∷ row (codes "AssociationTeardown") 2 ∷ []
 
-types_in_table : (text : List ℕ) → message_named text ≡ first_in types text
+pub types_in_table : (text : List ℕ) → message_named text ≡ first_in types text
 unfolding message_named
 types_in_table text = refl
 
-content_sound : (text : List ℕ) (kind : ℕ) → message_named text ≡ Some kind → Reads text kind
+type_name : (b : MsgBody) → name_in types (kind_of b) ≡ body_name b
+type_name (Setup ss) = refl
+type_name (SetupResponse n) = refl
+type_name (Teardown n) = refl
+type_name (Config ss) = refl
+type_name (ConfigResponse ss) = refl
+type_name (Query ss) = refl
+type_name (QueryResponse ss) = refl
+type_name (Event ss) = refl
+type_name Heartbeat = refl
+
+pub body_named : (text : List ℕ) (b : MsgBody) → message_named text ≡ Some (kind_of b) → text ≡ body_name b
+body_named text b e =
+    table_sound (λ t k. t ≡ name_in types k) types text (kind_of b) (refl, (refl, (refl, (refl, (refl, (refl, (refl, (refl, (refl, tt))))))))) (sym (types_in_table text) ∙ e) ∙ type_name b
+
+pub content_sound : (text : List ℕ) (kind : ℕ) → message_named text ≡ Some kind → Reads text kind
 content_sound text kind e =
     table_sound Reads types text kind
     (heartbeat_sound, (config_sound, (config_response_sound, (query_sound, (query_response_sound, (event_sound, (setup_sound, (setup_response_sound, (teardown_sound, tt)))))))))
@@ -348,7 +369,7 @@ whole_by h b left mid rest is content =
       },
     )
 
-whole_sound : (left : LinesLeft) (m : Message) (rest : LinesLeft) → whole_at left ≡ Ok (m, rest) → IsMessage m left rest
+pub whole_sound : (left : LinesLeft) (m : Message) (rest : LinesLeft) → whole_at left ≡ Ok (m, rest) → IsMessage m left rest
 unfolding whole_at
 whole_sound left m rest e =
     bind_ok (head_at left) _ (m, rest) e λ h is1 e1.
@@ -362,7 +383,7 @@ whole_sound left m rest e =
 abbrev IsTaken : Message → Type 0
 IsTaken m = IsProper m × (message_fits m ≡ true)
 
-message_sound : (left : LinesLeft) (m : Message) (rest : LinesLeft) → message_at left ≡ Ok (m, rest) → Found (message_lines m) left rest × IsTaken m
+pub message_sound : (left : LinesLeft) (m : Message) (rest : LinesLeft) → message_at left ≡ Ok (m, rest) → Found (message_lines m) left rest × IsTaken m
 unfolding message_at
 message_sound left m rest e =
     bind_ok (whole_at left) _ (m, rest) e λ w is1 e1. by w.0 w.1 (message_fits w.0) (λ h. h) (whole_sound left w.0 w.1 is1) e1
@@ -378,7 +399,7 @@ none_sound : (lines : List (List ℕ)) (at : TextPlace) (u : Unit {0}) → cond 
 none_sound [] at u e = refl
 none_sound (l ∷ ls) at u e = cc
 
-closed_sound : (left : LinesLeft) (u : Unit {0}) → closed left ≡ Ok u → left.lines ≡ []
+pub closed_sound : (left : LinesLeft) (u : Unit {0}) → closed left ≡ Ok u → left.lines ≡ []
 unfolding closed
 closed_sound left u e = none_sound left.lines _ u e
 

@@ -20,7 +20,7 @@ use Rattle.fc_text.proofs.ReadPaths.{layer_lines, layer_is, path_lines_are, one_
 use Rattle.fc_text.proofs.SoundWords.{bind_ok, same_pair, item_text, texts, Step, Taken, Found, exactly_sound, bytes_sound, steps_sound, code_sound, ilv_sound, line_sound, no_more, one_more, one_line, and_lines}
 
 -- lines behind lines
-each_join : {A : Type 0} (Is : A → List ℕ → Type 0) (xs ys : List A) (ts us : List (List ℕ)) → AreEach Is xs ts → AreEach Is ys us → AreEach Is (xs ++ ys) (ts ++ us)
+pub each_join : {A : Type 0} (Is : A → List ℕ → Type 0) (xs ys : List A) (ts us : List (List ℕ)) → AreEach Is xs ts → AreEach Is ys us → AreEach Is (xs ++ ys) (ts ++ us)
 each_join Is [] ys [] us h k = k
 each_join Is [] ys (t ∷ ts) us h k = absurd h
 each_join Is (x ∷ xs) ys [] us h k = absurd h
@@ -94,7 +94,7 @@ module _ (inside : ℕ → Reader Body) (Q : Body → Type 0) (sound : (level : 
     q,
   )
 
-  path_sound : (level : ℕ) (left : LinesLeft) (p : PathData) (rest : LinesLeft) → path_line inside level left ≡ Ok (p, rest) → Found (path_lines p level) left rest × Q p.body
+  pub path_sound : (level : ℕ) (left : LinesLeft) (p : PathData) (rest : LinesLeft) → path_line inside level left ≡ Ok (p, rest) → Found (path_lines p level) left rest × Q p.body
   unfolding path_line
   path_sound level left p rest e =
       bind_ok (line_at level left) _ (p, rest) e λ l is1 e1.
@@ -243,7 +243,7 @@ module _ (kind : OperKind) (inside : ℕ → Reader Body) (Q : Body → Type 0) 
 abbrev ProperAt : OperKind → ℕ → Body → Type 0
 ProperAt kind depth b = ProperBody kind (ProperPath kind depth) (out-Body b)
 
-body_sound : (kind : OperKind) (depth level : ℕ) (left : LinesLeft) (b : Body) (rest : LinesLeft) → body_at kind depth level left ≡ Ok (b, rest) → Found (body_lines b level) left rest × ProperAt kind depth b
+pub body_sound : (kind : OperKind) (depth level : ℕ) (left : LinesLeft) (b : Body) (rest : LinesLeft) → body_at kind depth level left ≡ Ok (b, rest) → Found (body_lines b level) left rest × ProperAt kind depth b
 body_sound kind zero level left b rest e = last_sound kind (ProperPath kind 0) level left b rest e
 body_sound kind (suc depth) level left b rest e = body_sound_by kind (body_at kind depth) (ProperAt kind depth) (body_sound kind depth) level left b rest e
 

@@ -34,7 +34,7 @@ texts w = map item_text w.words
 abbrev pub Step : Word → WordsLeft → WordsLeft → Type 0
 Step w v rest = (t : List ℕ) × (texts v ≡ t ∷ texts rest) × SpellsWord w t
 
-fits_some : {A : Type 0} (o : Option A) (at : TextPlace) (a : A) → fits_as o at ≡ Ok a → o ≡ Some a
+pub fits_some : {A : Type 0} (o : Option A) (at : TextPlace) (a : A) → fits_as o at ≡ Ok a → o ≡ Some a
 fits_some None at a e = cc
 fits_some (Some b) at a e = ap Some (same_ok b a e)
 
@@ -97,7 +97,7 @@ choice_some : (t : Bool) (b : ℕ) (ws : List (List ℕ)) → 0 < length (words_
 choice_some true b ws = omega arith
 choice_some false b ws = front_some b ws
 
-words_some : (bytes : List ℕ) → 0 < length (words_of bytes)
+pub words_some : (bytes : List ℕ) → 0 < length (words_of bytes)
 words_some [] = omega arith
 words_some (b ∷ bs) = choice_some (b == 32) b (words_of bs)
 
@@ -109,11 +109,11 @@ parted_choice : (t : Bool) (b : ℕ) (ws : List (List ℕ)) → 0 < length ws �
 parted_choice true b ws some is = parted_space ws some ∙ ap (λ c. c ∷ parted ws) (sym (is refl))
 parted_choice false b ws some is = parted_front b ws some
 
-parted_words : (bytes : List ℕ) → parted (words_of bytes) ≡ bytes
+pub parted_words : (bytes : List ℕ) → parted (words_of bytes) ≡ bytes
 parted_words [] = refl
 parted_words (b ∷ bs) = parted_choice (b == 32) b (words_of bs) (words_some bs) (eqb-true b 32) ∙ ap (λ l. b ∷ l) (parted_words bs)
 
-placed_texts : (column : ℕ) (ws : List (List ℕ)) → map item_text (placed column ws) ≡ ws
+pub placed_texts : (column : ℕ) (ws : List (List ℕ)) → map item_text (placed column ws) ≡ ws
 placed_texts column [] = refl
 placed_texts column (w ∷ ws) = ap (λ l. w ∷ l) (placed_texts (column + length w + 1) ws)
 
@@ -125,7 +125,7 @@ space_choice true b n is e = is refl
 space_choice false b n is e = cc
 
 -- the two first bytes of a line at a level that is not the first are spaces
-spaces_sound : (level : ℕ) (bytes : List ℕ) → spaces_before bytes ≡ 2 * level → bytes ≡ indent level ++ drop (2 * level) bytes
+pub spaces_sound : (level : ℕ) (bytes : List ℕ) → spaces_before bytes ≡ 2 * level → bytes ≡ indent level ++ drop (2 * level) bytes
 spaces_sound zero bytes h = refl
 spaces_sound (suc level) [] h = absurd (omega (arith, h))
 spaces_sound (suc level) (b ∷ []) h = absurd (few (b == 32) level h)

@@ -53,7 +53,7 @@ each_fits Is P one [] texts h = tt
 each_fits Is P one (x ∷ xs) [] h = absurd h
 each_fits Is P one (x ∷ xs) (t ∷ ts) h = (one x t h.0, each_fits Is P one xs ts h.1)
 
-lines_fit : (ls : List Line) (texts : List (List ℕ)) → AreEach SpellsLine ls texts → LinesFit ls
+pub lines_fit : (ls : List Line) (texts : List (List ℕ)) → AreEach SpellsLine ls texts → LinesFit ls
 lines_fit ls texts h = each_fits SpellsLine LineFits (λ l t s. each_fits SpellsWord WordFits word_fits l.words s.0 s.1) ls texts h
 
 have_text : (ms : List Message) (texts : List (List ℕ)) → AreEach SpellsLine (flat_map message_lines ms) texts → AllByRecursion IsProper ms → AllByRecursion (λ m. message_fits m ≡ true) ms → AllByRecursion HasText ms

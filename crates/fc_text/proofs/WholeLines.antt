@@ -73,7 +73,7 @@ content_whole (QueryResponse ss) p = all_selects_whole 20 1 ss p.1
 content_whole (Event ss) p = all_selects_whole 5 1 ss p.1
 content_whole Heartbeat p = tt
 
-message_whole : (m : Message) → IsProper m → AreWhole (message_lines m)
+pub message_whole : (m : Message) → IsProper m → AreWhole (message_lines m)
 message_whole m p = (head_whole m, content_whole m.body p.body)
 
 pub messages_whole : (ms : List Message) → AllByRecursion IsProper ms → AreWhole (flat_map message_lines ms)

@@ -1,5 +1,8 @@
 pub mod Appending
+pub mod FirstMisfit
+pub mod InFront
 pub mod LineWords
+pub mod Making
 pub mod Text
 pub mod TextGrammar
 pub mod TextPlaces

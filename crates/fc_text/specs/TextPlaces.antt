@@ -27,6 +27,12 @@ Gives x (Ok other) = other ≡ x
 Gives x (Err (faults.At line column)) = ⊥
 Gives x (Err faults.Memory) = Unit {0}
 
+-- where a call refuses, this holds of the place
+abbrev pub RefusedAt : {X : Type 0} → (TextPlace → Type 0) → Result X TextFault → Type 0
+RefusedAt Is (Ok x) = Unit {0}
+RefusedAt Is (Err (faults.At line column)) = Is (place line column)
+RefusedAt Is (Err faults.Memory) = Unit {0}
+
 -- the same of a call that reads the front, and what it leaves to be read
 abbrev pub Reads : {X S : Type 0} → Result (X × S) TextPlace → Result X TextFault → S → Type 0
 Reads read (Ok x) rest = read ≡ Ok (x, rest)

@@ -1,6 +1,9 @@
 // Text to the body of a Config.
-ghost use Rattle.std.specs.Prelude.{◌≡◌};
-ghost use Rattle.fc_text.specs.TextPlaces.{TextTells};
+ghost use Rattle.std.specs.Prelude.{◌≡◌, IfOk, List as Listed};
+ghost use Rattle.fc_path.specs.declared.oper.Select.{Select as Spelled};
+ghost use Rattle.fc_text.specs.FirstMisfit.{FirstMisfit, FitsSelects, IsWithin};
+ghost use Rattle.fc_text.specs.TextGrammar.{SpellsSelects};
+ghost use Rattle.fc_text.specs.TextPlaces.{Gives, RefusedAt, TextTells};
 ghost use Rattle.fc_text.specs.TextReading.{body_in};
 
 use crate::TextFault;
@@ -13,8 +16,18 @@ use std::alloc::Global;
 
 /// The LFBselects of the body of a Config, whose lines stand without the indentation that they have in a message; or the
 /// first line that does not fit, with its first word that does not. There is at least one.
-#[tactic(auto, unfolding(crate::specs::TextReading::body_in))]
 pub fn read_body(alloc: Global, bytes: &[u8]) -> Result<List<Select>, TextFault>
+    ensures exact { TextTells (body_in bytes.now) result }
+    ensures spelled { IfOk result (λ ss. SpellsSelects ss bytes.now) }
+    ensures only { (ss : Listed Spelled) → SpellsSelects ss bytes.now → Gives ss result }
+    ensures misfit { RefusedAt (λ p. FirstMisfit FitsSelects p bytes.now) result }
+    ensures within { RefusedAt (λ p. IsWithin p bytes.now) result }
+{
+    read_whole_body(alloc, bytes)
+}
+
+#[tactic(auto, unfolding(crate::specs::TextReading::body_in))]
+fn read_whole_body(alloc: Global, bytes: &[u8]) -> Result<List<Select>, TextFault>
     ensures { TextTells (body_in bytes.now) result }
 {
     let mut lines = Lines::over(bytes);

@@ -12,34 +12,16 @@ ghost use Rattle.fc_text.specs.TextReading.{text_in};
 
 use crate::laws::decoded_text_is_read;
 use crate::message::{fields, push_number};
+use crate::names::type_name_of;
 use crate::telling::{tell_selects, tell_some_selects};
 use fc_base::Memory;
 use fc_msg::{
-    AS_REASON, AS_RESULT, CONFIG, CONFIG_RESPONSE, EVENT, HEARTBEAT, Message, MsgBody, MsgFault,
-    QUERY, QUERY_RESPONSE, SETUP, SETUP_RESPONSE, TEARDOWN, first_broken_rule_is_told, headed,
-    read_only_number,
+    AS_REASON, AS_RESULT, HEARTBEAT, Message, MsgBody, MsgFault, SETUP, SETUP_RESPONSE, TEARDOWN,
+    first_broken_rule_is_told, headed, read_only_number,
 };
 use fc_path::{PathFault, are_bytes, no_more};
 use fc_wire::{Header, Tlvs};
 use std::alloc::Global;
-
-// The name of a type.
-fn name_of(kind: u8) -> &'static str
-    ensures { result.now ≡ type_name kind }
-{
-    match kind {
-        HEARTBEAT => "Heartbeat",
-        SETUP_RESPONSE => "AssociationSetupResponse",
-        TEARDOWN => "AssociationTeardown",
-        SETUP => "AssociationSetup",
-        CONFIG => "Config",
-        CONFIG_RESPONSE => "ConfigResponse",
-        QUERY => "Query",
-        QUERY_RESPONSE => "QueryResponse",
-        EVENT => "EventNotification",
-        _ => "AssociationSetup",
-    }
-}
 
 // The lines of a body of a type, whose TLVs go on to an end.
 fn tell_body(
@@ -72,7 +54,7 @@ fn tell_body(
 fn tell_head(into: &mut Vec<u8>, kind: u8, head: &Message) -> Result<(), Memory>
     ensures { OnOk result (into.new.items ≡ into.old.items ++ (type_name kind ++ fields_text head.now)) }
 {
-    into.extend_from_slice(name_of(kind).as_bytes())?;
+    into.extend_from_slice(type_name_of(kind).as_bytes())?;
     into.extend_from_slice(&fields(head))?;
     Ok(())
 }

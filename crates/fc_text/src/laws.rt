@@ -1,12 +1,14 @@
 // Laws of texts.
-ghost use Rattle.std.specs.Prelude.{◌≡◌, ◌↔◌, ◌∷◌, [], ℕ, List, Ok, true};
+ghost use Rattle.std.specs.Prelude.{◌≡◌, ◌↔◌, ◌⊎◌, ◌∷◌, [], ℕ, List, Ok, Err, true};
 ghost use Rattle.std.specs.List.{flat_map, AllByRecursion};
 ghost use Rattle.fc_wire.specs.Bytes.{AreBytes};
 ghost use Rattle.fc_path.specs.declared.oper.Select.{Select};
 ghost use Rattle.fc_msg.specs.Messages.{Spells, message_fits};
 ghost use Rattle.fc_msg.specs.declared.message.Message.{Message};
+ghost use Rattle.fc_text.specs.FirstMisfit.{FirstMisfit, FitsMessages, FitsSelects, IsWithin, TooLongAt};
 ghost use Rattle.fc_text.specs.Text.{message_text};
 ghost use Rattle.fc_text.specs.TextGrammar.{HasText, SpellsSelects, SpellsText};
+ghost use Rattle.fc_text.specs.TextPlaces.{TextPlace};
 ghost use Rattle.fc_text.specs.TextReading.{body_in, text_in};
 
 /// Reading gives messages exactly where the bytes are a text of them, and no bytes are a text of two lists of messages.
@@ -39,4 +41,21 @@ pub fn shown_text_is_read()
 pub fn decoded_text_is_read()
     ensures text { (m : Message) (bytes : List ℕ) → AreBytes bytes → Spells m bytes → message_fits m ≡ true → HasText m }
     ensures read { (m : Message) (bytes : List ℕ) → AreBytes bytes → Spells m bytes → message_fits m ≡ true → text_in (message_text m) ≡ Ok (m ∷ []) }
+{}
+
+/// A text is refused at the first place at which nothing fits: what stands before it begins a text, and no text has the
+/// same before it and at it. Or it is refused at the first line of a message that can't be encoded. The place stands in
+/// the text, or right behind a line or the text.
+pub fn text_is_refused_at_its_first_misfit()
+    ensures text { (bytes : List ℕ) (p : TextPlace) → text_in bytes ≡ Err p → FirstMisfit FitsMessages p bytes ⊎ TooLongAt p bytes }
+    ensures body { (bytes : List ℕ) (p : TextPlace) → body_in bytes ≡ Err p → FirstMisfit FitsSelects p bytes }
+    ensures within { (bytes : List ℕ) (p : TextPlace) → (text_in bytes ≡ Err p) ⊎ (body_in bytes ≡ Err p) → IsWithin p bytes }
+{}
+
+/// A text is refused at each such place within it, so it has one at most: at its first misfit, if no message that can't be encoded
+/// stands behind ones that can, and else at the first line of that message.
+pub fn first_misfit_is_where_text_is_refused()
+    ensures text { (bytes : List ℕ) (p : TextPlace) → IsWithin p bytes → FirstMisfit FitsMessages p bytes → ((q : TextPlace) → TooLongAt q bytes → ⊥) → text_in bytes ≡ Err p }
+    ensures long { (bytes : List ℕ) (p : TextPlace) → TooLongAt p bytes → text_in bytes ≡ Err p }
+    ensures body { (bytes : List ℕ) (p : TextPlace) → IsWithin p bytes → FirstMisfit FitsSelects p bytes → body_in bytes ≡ Err p }
 {}

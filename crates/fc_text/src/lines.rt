@@ -1,7 +1,7 @@
 // The lines of a text, each with its indentation.
-ghost use Rattle.std.specs.Prelude.{◌≡◌, ◌≤◌, ◌<◌, ◌+◌, ◌*◌, length, take, drop, ◌∷◌, OnOk};
+ghost use Rattle.std.specs.Prelude.{◌≡◌, ◌≤◌, ◌<◌, ◌+◌, ◌*◌, ◌^◌, length, take, drop, ◌∷◌, false, OnOk};
 ghost use Rattle.fc_text.specs.TextPlaces.{Reads, TextTells, place};
-ghost use Rattle.fc_text.specs.LineWords.{lines_of, none_left, spaces_before as spaces, stands_at as stands, line_at, text_lines, closed as is_closed};
+ghost use Rattle.fc_text.specs.LineWords.{HasNone, lines_left, lines_of, none_left, spaces_before as spaces, stands_at as stands, line_at, text_lines, closed as is_closed};
 ghost use Rattle.fc_text.specs.declared.fault.TextFault.TheVariants.{At};
 
 use crate::TextFault;
@@ -42,6 +42,40 @@ fn spaces_before(bytes: &[u8]) -> usize
     count
 }
 
+// Whether one of eight bytes is a line feed. All are looked at together.
+#[inline(always)]
+fn has_feed(piece: &[u8; 8]) -> bool
+    ensures { result ≡ false → HasNone 10 8 piece.now }
+{
+    let [a, b, c, d, e, f, g, h] = *piece;
+    (a == b'\n')
+        | (b == b'\n')
+        | (c == b'\n')
+        | (d == b'\n')
+        | (e == b'\n')
+        | (f == b'\n')
+        | (g == b'\n')
+        | (h == b'\n')
+}
+
+// So many of the first bytes have no line feed among them. They are as many pieces of eight as there are.
+#[inline(always)]
+fn len_of_pieces(bytes: &[u8]) -> usize
+    ensures within { result ≤ length bytes.now }
+    ensures none { HasNone 10 result bytes.now }
+{
+    let mut len = 0;
+    let mut rest = bytes;
+    'pieces: while let Some((piece, more)) = rest.split_first_chunk::<8>() {
+        if has_feed(piece) {
+            return len;
+        }
+        len += 8;
+        rest = more;
+    }
+    len
+}
+
 // How many bytes stand before the first line feed.
 #[inline(always)]
 fn line_len(bytes: &[u8]) -> usize
@@ -49,7 +83,7 @@ fn line_len(bytes: &[u8]) -> usize
     ensures within { result ≤ length bytes.now }
     ensures first { lines_of bytes.now ≡ take result bytes.now ∷ lines_of (drop (result + 1) bytes.now) }
 {
-    let mut len = 0;
+    let mut len = len_of_pieces(bytes);
     'bytes: while len < bytes.len() && bytes[len] != b'\n' {
         len += 1;
     }
@@ -105,6 +139,26 @@ impl<'a> Lines<'a> {
         ensures { result ≡ stands level self.now.lines }
     {
         !self.rest.is_empty() && self.indent == 2 * level
+    }
+
+    /// What is left of the text.
+    #[inline(always)]
+    pub fn rest(&self) -> &'a [u8]
+        ensures lines { self.now ≡ lines_left self.now.taken (lines_of result.now) }
+        ensures room { self.now.taken + length result.now < 2 ^ 63 }
+    {
+        self.rest
+    }
+
+    /// Goes on behind so many lines, where this is left of the text.
+    #[inline(always)]
+    pub fn go_on(&mut self, count: usize, rest: &'a [u8])
+        requires { self.old.taken + count + length rest.now < 2 ^ 63 }
+        ensures { self.new ≡ lines_left (self.old.taken + count) (lines_of rest.now) }
+    {
+        self.rest = rest;
+        self.taken += count;
+        self.indent = spaces_before(rest);
     }
 
     /// The fault of a next line whose indentation is wrong, or that is missing.

@@ -1,10 +1,10 @@
 // Text to messages.
-ghost use Rattle.std.specs.Prelude.{◌≡◌, ◌≤◌, ◌<◌, length, true, IfOk, OnOk, List as Listed};
+ghost use Rattle.std.specs.Prelude.{◌≡◌, ◌≤◌, ◌<◌, ◌⊎◌, length, true, IfOk, OnOk, List as Listed};
 ghost use Rattle.std.specs.List.{AllByRecursion};
-ghost use Rattle.fc_msg.specs.Bodies.{holding as body_holding};
 ghost use Rattle.fc_msg.specs.Messages.{IsProper, message_fits};
 ghost use Rattle.fc_msg.specs.declared.message.Message.{Message as Spelled};
-ghost use Rattle.fc_text.specs.TextPlaces.{Gives, Reads, TextTells};
+ghost use Rattle.fc_text.specs.FirstMisfit.{FirstMisfit, FitsMessages, IsWithin, TooLongAt};
+ghost use Rattle.fc_text.specs.TextPlaces.{Gives, Reads, RefusedAt, TextTells};
 ghost use Rattle.fc_text.specs.TextGrammar.{SpellsText};
 ghost use Rattle.fc_text.specs.TextReading.{content_at, head_at, message_at, number_at, shut as is_shut, many_at, text_in, whole_at};
 
@@ -12,11 +12,7 @@ use crate::TextFault;
 use crate::lines::Lines;
 use crate::read_select::{read_selects, read_some_selects};
 use fc_base::{List, Memory, WriteFault};
-use fc_msg::{
-    CONFIG, CONFIG_RESPONSE, EVENT, HEARTBEAT, Message, MsgBody, QUERY, QUERY_RESPONSE, SETUP,
-    SETUP_RESPONSE, TEARDOWN, encode,
-};
-use fc_path::Select;
+use fc_msg::{HEARTBEAT, Message, MsgBody, SETUP, SETUP_RESPONSE, TEARDOWN, encode};
 use fc_wire::Flags;
 use std::alloc::Global;
 
@@ -29,6 +25,8 @@ pub fn read_text(alloc: Global, bytes: &[u8]) -> Result<List<Message>, TextFault
     ensures only { (ms : Listed Spelled) → SpellsText ms bytes.now → Gives ms result }
     ensures proper { IfOk result (λ ms. AllByRecursion IsProper ms) }
     ensures fits { IfOk result (λ ms. AllByRecursion (λ m. message_fits m ≡ true) ms) }
+    ensures misfit { RefusedAt (λ p. FirstMisfit FitsMessages p bytes.now ⊎ TooLongAt p bytes.now) result }
+    ensures within { RefusedAt (λ p. IsWithin p bytes.now) result }
 {
     read_all(alloc, bytes)
 }
@@ -69,9 +67,9 @@ fn read_message(alloc: Global, lines: &mut Lines) -> Result<Message, TextFault>
     Ok(message)
 }
 
-// A message, behind which another begins, or the text ends.
+/// A message, behind which another begins, or the text ends. Whether it can be encoded is not looked at.
 #[tactic(auto, unfolding(crate::specs::TextReading::whole_at))]
-fn read_whole(alloc: Global, lines: &mut Lines) -> Result<Message, TextFault>
+pub fn read_whole(alloc: Global, lines: &mut Lines) -> Result<Message, TextFault>
     ensures exact { Reads (whole_at lines.old) result lines.new }
     ensures less { OnOk result (length lines.new.lines < length lines.old.lines) }
 {
@@ -143,20 +141,6 @@ fn read_number(name: &[u8], lines: &mut Lines) -> Result<u32, TextFault>
     Ok(number)
 }
 
-// The body of a type that holds these selects.
-fn holding(kind: u8, selects: List<Select>) -> MsgBody
-    ensures { result ≡ body_holding kind selects }
-{
-    match kind {
-        CONFIG => MsgBody::Config(selects),
-        CONFIG_RESPONSE => MsgBody::ConfigResponse(selects),
-        QUERY => MsgBody::Query(selects),
-        QUERY_RESPONSE => MsgBody::QueryResponse(selects),
-        EVENT => MsgBody::Event(selects),
-        _ => MsgBody::Setup(selects),
-    }
-}
-
 // The body of a message of a type.
 #[tactic(auto, unfolding(crate::specs::TextReading::content_at))]
 fn read_content(alloc: Global, kind: u8, lines: &mut Lines) -> Result<MsgBody, TextFault>
@@ -179,7 +163,7 @@ fn read_content(alloc: Global, kind: u8, lines: &mut Lines) -> Result<MsgBody, T
         }
         _ => {
             let selects = read_some_selects(alloc, kind, 1, lines)?;
-            Ok(holding(kind, selects))
+            Ok(MsgBody::holding(kind, selects))
         }
     }
 }

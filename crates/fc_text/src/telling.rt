@@ -1,7 +1,7 @@
 // Reads the operations of messages and appends the text of each part as soon as it is read.
 ghost use Rattle.std.specs.Prelude.{◌≡◌, ◌≤◌, ◌<◌, ◌+◌, ◌%◌, ◌^◌, ◌++◌, length, OnOk};
 ghost use Rattle.std.specs.List.{flat_map};
-ghost use Rattle.fc_path.specs.Plain.{bare, ended, plain};
+ghost use Rattle.fc_path.specs.Plain.{bare, ended, valued};
 ghost use Rattle.fc_path.specs.Stray.{misplaced as is_misplaced};
 ghost use Rattle.fc_path.specs.Reading.{each_in, some_in, path_or, path_at, oper_at, operation_at, select_at};
 ghost use Rattle.fc_path.specs.declared.kinds.Operation.TheVariants.{Paths};
@@ -37,7 +37,7 @@ fn tell_any_path(
 // The lines of a PATH-DATA with one ID, no key and a whole value.
 #[inline(always)]
 fn push_plain(into: &mut Vec<u8>, id: u32, value: &[u8]) -> Result<(), Memory>
-    ensures { OnOk result (into.new.items ≡ into.old.items ++ path_text (plain id value.now) 3) }
+    ensures { OnOk result (into.new.items ≡ into.old.items ++ path_text (valued id value.now) 3) }
 {
     push_id_line(into, id)?;
     push_value(into, value)?;

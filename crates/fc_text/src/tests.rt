@@ -1,5 +1,7 @@
 // Texts of messages whose bytes stand in the specification of the format.
-use crate::{TextFault, read_body, read_text, show, show_bytes};
+use crate::quick::quick_message;
+use crate::quick_body::Shortcut;
+use crate::{TextFault, make_bytes, read_body, read_text, show, show_bytes};
 use fc_msg::{MsgBody, decode, encode};
 use std::alloc::{AllocError, Global};
 use std::test::Fail;
@@ -107,6 +109,55 @@ fn a_shown_message_is_read_again(rt: HostRuntime) -> Result<(), Fail> {
         let mut made = Vec::new(alloc);
         encode(&message, &mut made).ok().ok_or("a length")?;
         assert_eq!(rt; made.as_slice(), bytes.as_slice(), "{digits}");
+    }
+    Ok(())
+}
+
+#[test]
+fn bytes_are_made_of_a_whole_text_or_not_at_all(rt: HostRuntime) -> Result<(), Fail> {
+    let alloc = rt.alloc();
+    let mut text = Vec::new(alloc);
+    let mut wanted = Vec::new(alloc);
+    wanted.push(7)?;
+    for (digits, lines) in [SAMPLES[7], SAMPLES[0]] {
+        text.extend_from_slice(lines.as_bytes())?;
+        wanted.extend_from_slice(bytes_of(alloc, digits)?.as_slice())?;
+    }
+    let mut made = Vec::new(alloc);
+    made.push(7)?;
+    assert_eq!(rt; make_bytes(alloc, text.as_slice(), &mut made), Ok(()));
+    assert_eq!(rt; made.as_slice(), wanted.as_slice());
+    text.extend_from_slice(b"Heartbeat")?;
+    assert_eq!(rt;
+        make_bytes(alloc, text.as_slice(), &mut made),
+        Err(TextFault::At {
+            line: 9,
+            column: 10
+        })
+    );
+    assert_eq!(rt; made.as_slice(), wanted.as_slice());
+    Ok(())
+}
+
+#[test]
+fn messages_of_the_usual_shapes_are_made_at_once(rt: HostRuntime) -> Result<(), Fail> {
+    let alloc = rt.alloc();
+    let mut shortcut = Shortcut::new(alloc);
+    for (at, (digits, text)) in SAMPLES.iter().enumerate() {
+        let bytes = bytes_of(alloc, digits)?;
+        let mut made = Vec::new(alloc);
+        let twice = format!(in alloc; "{text}{text}")?;
+        match quick_message(&mut shortcut, twice.as_bytes(), &mut made) {
+            Some(quick) => {
+                assert_eq!(rt; made.as_slice(), bytes.as_slice(), "{digits}");
+                assert_eq!(rt; quick.rest, text.as_bytes(), "{digits}");
+                assert_eq!(rt; quick.lines, text.lines().count(), "{digits}");
+            }
+            None => assert!(rt; at == 7, "{digits}"),
+        }
+        let unended = text.strip_suffix("\n").ok_or("unended")?;
+        let cut = quick_message(&mut shortcut, unended.as_bytes(), &mut made);
+        assert!(rt; cut.is_none(), "{digits}");
     }
     Ok(())
 }

@@ -1,9 +1,27 @@
 // What the words for numbers and bytes mean.
-ghost use Rattle.std.specs.Prelude.{◌≡◌, ◌≤◌, ◌<◌, ◌^◌, length, IfOk, IfSome};
+ghost use Rattle.std.specs.Prelude.{◌≡◌, ◌≤◌, ◌<◌, ◌^◌, if◌then◌else◌, length, Some, None, IfOk, IfSome};
 ghost use Rattle.fc_text.specs.WordValues.{digit_of as value_of, hexadecimal as hex_value, digits_of, decimals as decimal_value, decimal_of as decimal_word, pairs_of, octets_of as octets_word};
 
 use fc_base::{Memory, Octets};
 use std::alloc::Global;
+
+// The value of each byte as a hexadecimal digit of either case, and 255 of what is none.
+const DIGITS: [u8; 256] = *b"\xFF\xFF\xFF\xFF\xFF\xFF\xFF\xFF\xFF\xFF\xFF\xFF\xFF\xFF\xFF\xFF\
+    \xFF\xFF\xFF\xFF\xFF\xFF\xFF\xFF\xFF\xFF\xFF\xFF\xFF\xFF\xFF\xFF\
+    \xFF\xFF\xFF\xFF\xFF\xFF\xFF\xFF\xFF\xFF\xFF\xFF\xFF\xFF\xFF\xFF\
+    \x00\x01\x02\x03\x04\x05\x06\x07\x08\x09\xFF\xFF\xFF\xFF\xFF\xFF\
+    \xFF\x0A\x0B\x0C\x0D\x0E\x0F\xFF\xFF\xFF\xFF\xFF\xFF\xFF\xFF\xFF\
+    \xFF\xFF\xFF\xFF\xFF\xFF\xFF\xFF\xFF\xFF\xFF\xFF\xFF\xFF\xFF\xFF\
+    \xFF\x0A\x0B\x0C\x0D\x0E\x0F\xFF\xFF\xFF\xFF\xFF\xFF\xFF\xFF\xFF\
+    \xFF\xFF\xFF\xFF\xFF\xFF\xFF\xFF\xFF\xFF\xFF\xFF\xFF\xFF\xFF\xFF\
+    \xFF\xFF\xFF\xFF\xFF\xFF\xFF\xFF\xFF\xFF\xFF\xFF\xFF\xFF\xFF\xFF\
+    \xFF\xFF\xFF\xFF\xFF\xFF\xFF\xFF\xFF\xFF\xFF\xFF\xFF\xFF\xFF\xFF\
+    \xFF\xFF\xFF\xFF\xFF\xFF\xFF\xFF\xFF\xFF\xFF\xFF\xFF\xFF\xFF\xFF\
+    \xFF\xFF\xFF\xFF\xFF\xFF\xFF\xFF\xFF\xFF\xFF\xFF\xFF\xFF\xFF\xFF\
+    \xFF\xFF\xFF\xFF\xFF\xFF\xFF\xFF\xFF\xFF\xFF\xFF\xFF\xFF\xFF\xFF\
+    \xFF\xFF\xFF\xFF\xFF\xFF\xFF\xFF\xFF\xFF\xFF\xFF\xFF\xFF\xFF\xFF\
+    \xFF\xFF\xFF\xFF\xFF\xFF\xFF\xFF\xFF\xFF\xFF\xFF\xFF\xFF\xFF\xFF\
+    \xFF\xFF\xFF\xFF\xFF\xFF\xFF\xFF\xFF\xFF\xFF\xFF\xFF\xFF\xFF\xFF";
 
 // The value of a hexadecimal digit of either case.
 #[inline(always)]
@@ -11,16 +29,11 @@ fn digit(byte: u8) -> Option<u8>
     ensures exact { result ≡ value_of byte }
     ensures small { IfSome result (λ d. d < 16) }
 {
-    if b'0' <= byte && byte <= b'9' {
-        return Some(byte - b'0');
+    let value = DIGITS[usize::from(byte)];
+    if value > 15 {
+        return None;
     }
-    if b'A' <= byte && byte <= b'F' {
-        return Some(byte - (b'A' - 10));
-    }
-    if b'a' <= byte && byte <= b'f' {
-        return Some(byte - (b'a' - 10));
-    }
-    None
+    Some(value)
 }
 
 // The number of at most 16 hexadecimal digits.
@@ -135,16 +148,24 @@ fn pairs(alloc: Global, word: &[u8]) -> Result<Option<Octets>, Memory>
     ensures { IfOk result (λ octets. octets ≡ pairs_of word.now) }
 {
     let mut bytes = Vec::with_capacity(alloc, word.len() / 2)?;
+    if read_pairs(word, &mut bytes)? {
+        return Ok(Some(Octets::from_vec(bytes)));
+    }
+    Ok(None)
+}
+
+/// Puts the bytes of pairs of hexadecimal digits in place of what the list holds, and says whether the word is such pairs.
+pub fn read_pairs(word: &[u8], into: &mut Vec<u8>) -> Result<bool, Memory>
+    ensures { IfOk result (λ whole. pairs_of word.now ≡ (if whole then Some into.new.items else None)) }
+{
+    into.clear();
     let mut rest = word;
     'pairs: while let Some((pair, more)) = rest.split_first_chunk::<2>() {
         match two_digits_of(pair) {
-            Some(byte) => bytes.push(byte)?,
-            None => return Ok(None),
+            Some(byte) => into.push(byte)?,
+            None => return Ok(false),
         }
         rest = more;
     }
-    if !rest.is_empty() {
-        return Ok(None);
-    }
-    Ok(Some(Octets::from_vec(bytes)))
+    Ok(rest.is_empty())
 }

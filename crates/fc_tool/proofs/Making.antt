@@ -1,71 +1,20 @@
 -- How `make` ends, from how its parts ended, and that a known input has one ending.
-use Rattle.std.proofs.Common.{◌≡◌, ◌<◌, ◌≤◌, ◌+◌, get_or, ℕ, List, [], ◌∷◌, ◌++◌, length, take, drop, append_assoc, append-nil, arith, refl, sym, ap, subst, ◌∙◌, inl, inr, Option, Some, Result, Ok, Err, length-append}
-use Rattle.std.specs.Prelude.{OnOk, OnErr}
-use Rattle.std.specs.Io.KnownBytes.{Appends, Keeps}
-use Rattle.std.proofs.KnownBytes.{Appends-kept, Appends-nil, Appends-trans}
-use Rattle.std.proofs.lemmas.Grind.{flat_map-append}
-use Rattle.std.proofs.lemmas.List.{take-append-drop, take_all, take_more}
+use Rattle.std.proofs.Common.{◌≡◌, ℕ, List, refl, sym, ap, ◌∙◌, inl, inr, Option, Some, Result, Ok, Err}
+use Rattle.std.specs.Io.KnownBytes.{Keeps}
+use Rattle.std.proofs.KnownBytes.{Appends-kept}
 use Rattle.fc_base.specs.Content.{AppendsFront}
-use Rattle.fc_msg.specs.Messages.{canonical}
 use Rattle.fc_msg.specs.declared.message.Message.{Message}
 use Rattle.fc_text.specs.TextPlaces.{TextPlace}
 use Rattle.fc_text.specs.TextReading.{text_in}
-use Rattle.fc_tool.specs.declared.input.Look.{Look}
 use Rattle.fc_tool.specs.declared.input.Look.TheVariants as look
 use Rattle.fc_tool.specs.declared.make.Made.{Made}
 use Rattle.fc_tool.specs.declared.make.Made.TheVariants.{Done, ReadFault, Refused, TooLong}
 use Rattle.fc_tool.specs.declared.stops.Stop.{Stop}
 use Rattle.fc_tool.specs.declared.stops.Stop.TheVariants.{WriteFault, NoMemory}
 use Rattle.fc_tool.specs.ElementRun.{LookEnds}
-use Rattle.fc_tool.specs.Make.{IsTold, MakeEnds, MakeSource, Makes, TextEnds, bytes_of, look_of}
-use Rattle.fc_tool.proofs.Shows.{front_after, whole_front}
+use Rattle.fc_tool.specs.Make.{IsTold, MakeEnds, MakeSource, Makes, TextEnds, look_of}
+use Rattle.fc_tool.proofs.Shows.{whole_front}
 use Rattle.fc_tool.proofs.Outcomes.{read_twice, whole_long}
-
--- ---- messages one after the other
-
-bytes_more : (ms : List Message) (n : ℕ) (m : Message) → n < length ms → m ≡ get_or ms n m → bytes_of (take (n + 1) ms) ≡ bytes_of (take n ms) ++ canonical m
-bytes_more ms n m lt at =
-    let more : take (n + 1) ms ≡ take n ms ++ m ∷ [] = take_more ms n m lt ∙ ap (λ x. take n ms ++ x ∷ []) (sym at) in
-    ap bytes_of more ∙ flat_map-append canonical (take n ms) (m ∷ []) ∙ ap (λ l. bytes_of (take n ms) ++ l) (append-nil (canonical m))
-
--- of the first messages this was written, and these bytes are to be written
-pub sent_more : (a b c : Option (List ℕ)) (ms : List Message) (n : ℕ) (m : Message) (sent bytes held more left : List ℕ) → n < length ms → m ≡ get_or ms n m
-    → Appends a b sent → sent ++ bytes ≡ bytes_of (take n ms) → held ≡ bytes ++ canonical m → held ≡ more ++ left → Appends b c more
-    → (all : List ℕ) × Appends a c all × (all ++ left ≡ bytes_of (take (n + 1) ms))
-sent_more a b c ms n m sent bytes held more left lt at first is pushed split second = (
-  sent ++ more,
-  Appends-trans a b c sent more first second,
-  append_assoc sent more left ∙ ap (λ l. sent ++ l) (sym split ∙ pushed) ∙ sym (append_assoc sent bytes (canonical m))
-      ∙ ap (λ l. l ++ canonical m) is ∙ sym (bytes_more ms n m lt at),
-)
-
--- the writing stopped within these bytes
-pub sent_front : (a b c : Option (List ℕ)) (ms : List Message) (n : ℕ) (sent bytes : List ℕ) → Appends a b sent → sent ++ bytes ≡ bytes_of (take n ms)
-    → AppendsFront b c bytes → AppendsFront a c (bytes_of ms)
-sent_front a b c ms n sent bytes first is stopped =
-    let (front, back, split, second) = front_after a b c sent bytes first stopped in
-    let all : bytes_of ms ≡ bytes_of (take n ms) ++ bytes_of (drop n ms) =
-    ap bytes_of (sym (take-append-drop n ms)) ∙ flat_map-append canonical (take n ms) (drop n ms) in
-    (front, back ++ bytes_of (drop n ms), all ∙ ap (λ l. l ++ bytes_of (drop n ms)) (sym is ∙ split) ∙ append_assoc front back (bytes_of (drop n ms)), second)
-
--- it stopped within these bytes and those of one message more
-pub sent_front_more : (a b c : Option (List ℕ)) (ms : List Message) (n : ℕ) (m : Message) (sent bytes held : List ℕ) → n < length ms → m ≡ get_or ms n m
-    → Appends a b sent → sent ++ bytes ≡ bytes_of (take n ms) → held ≡ bytes ++ canonical m → AppendsFront b c held → AppendsFront a c (bytes_of ms)
-sent_front_more a b c ms n m sent bytes held lt at first is pushed stopped =
-    let all = append-nil held in
-    let (whole, wrote, same) = sent_more a b b ms n m sent bytes held [] held lt at first is pushed refl (Appends-nil b) in
-    sent_front a b c ms (n + 1) whole held wrote same stopped
-
--- all was written, or the writing stopped within the last bytes
-pub all_sent : (result : Result (Unit {0}) Stop) (a b c : Option (List ℕ)) (ms : List Message) (n : ℕ) (sent bytes : List ℕ) → length ms ≤ n
-    → Appends a b sent → sent ++ bytes ≡ bytes_of (take n ms) → OnOk result (Appends b c bytes) → OnOk result (Appends a c (bytes_of ms))
-all_sent (Ok x) a b c ms n sent bytes le first is second = rw (sym (is ∙ ap bytes_of (take_all n ms le))) (Appends-trans a b c sent bytes first second)
-all_sent (Err stop) a b c ms n sent bytes le first is second = tt
-
-pub last_front : (result : Result (Unit {0}) Stop) (a b c : Option (List ℕ)) (ms : List Message) (n : ℕ) (sent bytes : List ℕ)
-    → Appends a b sent → sent ++ bytes ≡ bytes_of (take n ms) → OnErr result (AppendsFront b c bytes) → OnErr result (AppendsFront a c (bytes_of ms))
-last_front (Ok x) a b c ms n sent bytes first is stopped = tt
-last_front (Err stop) a b c ms n sent bytes first is stopped = sent_front a b c ms n sent bytes first is stopped
 
 -- ---- the text
 

@@ -1,18 +1,16 @@
 // The command `make`.
-ghost use Rattle.std.specs.Prelude.{◌≡◌, ◌++◌, ℕ, List, OnOk, OnErr, IfOk, true, string_bytes};
-ghost use Rattle.std.specs.List.{AllByRecursion};
+ghost use Rattle.std.specs.Prelude.{◌≡◌, OnOk, OnErr, IfOk, string_bytes};
 ghost use Rattle.std.specs.Io.KnownBytes.{Appends};
 ghost use Rattle.fc_base.specs.Content.{AppendsFront};
-ghost use Rattle.fc_msg.specs.Messages.{canonical, message_fits};
 ghost use Rattle.fc_text.specs.TextPlaces.{place};
-ghost use Rattle.fc_tool.specs.Make.{MakeEnds, MakeSource, TextEnds, bytes_of, text_refusal};
+ghost use Rattle.fc_tool.specs.Make.{MakeEnds, MakeSource, TextEnds, text_refusal};
 ghost use Rattle.fc_tool.specs.Stops.{FlushedAt, SinkCount};
 
 use crate::input::{LIMIT, Look, look_over};
 use crate::stops::{Stop, finish, put};
-use fc_base::{Memory, Sink, Source, WriteFault};
-use fc_msg::{Message, Splitter, encode};
-use fc_text::{TextFault, read_text};
+use fc_base::{Memory, Sink, Source};
+use fc_msg::Splitter;
+use fc_text::{TextFault, make_bytes};
 use std::alloc::Global;
 
 /// How `make` ended, where all was written.
@@ -27,9 +25,6 @@ pub enum Made {
     /// The input is longer than is looked at.
     TooLong,
 }
-
-// Bytes are written once there are so many of them, and the last ones at the end.
-const PIECE: usize = 65_536;
 
 /// Writes the canonical bytes of the messages of the text that comes in, or why it is the text of none, and flushes it.
 pub fn make<S: Source, K: Sink>(alloc: Global, input: &mut S, out: &mut K) -> Result<Made, Stop>
@@ -64,14 +59,15 @@ fn make_all<S: Source, K: Sink>(alloc: Global, input: &mut S, out: &mut K) -> Re
     }
 }
 
-// Writes the messages of a text, or why it has none.
+// Writes the bytes of the messages of a text, or why it has none.
 fn make_text<K: Sink>(alloc: Global, text: &[u8], out: &mut K) -> Result<Made, Stop>
     ensures ends { TextEnds text.now result (K.written out.old) (K.written out.new) }
     ensures unflushed { K.flushed out.new ≡ K.flushed out.old }
     ensures sink { SinkCount result (K.faults out.old) (K.faults out.new) }
 {
-    match read_text(alloc, text) {
-        Ok(messages) => match put_messages(alloc, messages.as_slice(), out) {
+    let mut bytes = Vec::new(alloc);
+    match make_bytes(alloc, text, &mut bytes) {
+        Ok(()) => match put(out, bytes.as_slice()) {
             Ok(()) => Ok(Made::Done),
             Err(stop) => Err(stop),
         },
@@ -80,61 +76,6 @@ fn make_text<K: Sink>(alloc: Global, text: &[u8], out: &mut K) -> Result<Made, S
             Err(stop) => Err(stop),
         },
         Err(TextFault::Memory) => Err(Stop::NoMemory),
-    }
-}
-
-// Writes messages that can be encoded. After an `Err` a front of their bytes was written.
-fn put_messages<K: Sink>(alloc: Global, messages: &[Message], out: &mut K) -> Result<(), Stop>
-    requires { AllByRecursion (λ m. message_fits m ≡ true) messages.now }
-    ensures ok { OnOk result (Appends (K.written out.old) (K.written out.new) (bytes_of messages.now)) }
-    ensures err { OnErr result (AppendsFront (K.written out.old) (K.written out.new) (bytes_of messages.now)) }
-    ensures unflushed { K.flushed out.new ≡ K.flushed out.old }
-    ensures count { SinkCount result (K.faults out.old) (K.faults out.new) }
-{
-    let mut bytes = Vec::new(alloc);
-    'messages: for message in messages.iter() {
-        match push_message(message, &mut bytes) {
-            Ok(()) => {}
-            Err(_) => return Err(Stop::NoMemory),
-        }
-        match put_full(&mut bytes, out) {
-            Ok(()) => {}
-            Err(stop) => return Err(stop),
-        }
-    }
-    put(out, bytes.as_slice())
-}
-
-// Appends the canonical bytes of a message that can be encoded. After an `Err` nothing has changed.
-fn push_message(message: &Message, bytes: &mut Vec<u8>) -> Result<(), Memory>
-    requires { message_fits message.now ≡ true }
-    ensures ok { OnOk result (bytes.new.items ≡ bytes.old.items ++ canonical message.now) }
-    ensures err { OnErr result (bytes.new.items ≡ bytes.old.items) }
-{
-    match encode(message, bytes) {
-        Ok(()) => Ok(()),
-        Err(WriteFault::TooLong) => unreachable!(),
-        Err(WriteFault::Memory) => Err(Memory),
-    }
-}
-
-// Writes the bytes and clears them, where there are so many that they are to be written. After an `Err` a front of them was
-// written.
-fn put_full<K: Sink>(bytes: &mut Vec<u8>, out: &mut K) -> Result<(), Stop>
-    ensures ok { OnOk result ((sent : List ℕ) × (bytes.old.items ≡ sent ++ bytes.new.items) × Appends (K.written out.old) (K.written out.new) sent) }
-    ensures err { OnErr result (AppendsFront (K.written out.old) (K.written out.new) bytes.old.items) }
-    ensures unflushed { K.flushed out.new ≡ K.flushed out.old }
-    ensures count { SinkCount result (K.faults out.old) (K.faults out.new) }
-{
-    if bytes.len() < PIECE {
-        return Ok(());
-    }
-    match put(out, bytes.as_slice()) {
-        Ok(()) => {
-            bytes.clear();
-            Ok(())
-        }
-        Err(stop) => Err(stop),
     }
 }
 

@@ -145,7 +145,12 @@ fn tlvs_are_written(rt: HostRuntime) -> Result<(), Fail> {
     writer.end(path)?;
     writer.end(operation)?;
     writer.end(select)?;
-    assert_eq!(rt; writer.finish().as_slice(), ANSWER.as_slice());
+    assert_eq!(rt; writer.as_slice(), ANSWER.as_slice());
+    writer.clear();
+    assert!(rt; writer.as_slice().is_empty());
+    let commit = writer.begin(12)?;
+    writer.end(commit)?;
+    assert_eq!(rt; writer.finish().as_slice(), [0u8, 12, 0, 4].as_slice());
     Ok(())
 }
 

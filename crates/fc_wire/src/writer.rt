@@ -129,6 +129,21 @@ impl TlvWriter {
         Ok(())
     }
 
+    /// The bytes that were written so far. The length of a TLV that is not ended is zero in them.
+    pub fn as_slice(&self) -> &[u8]
+        ensures { result.now ≡ self.now.text }
+    {
+        self.bytes.as_slice()
+    }
+
+    /// Forgets all that was written, and the TLVs that are begun. The room for it is kept.
+    pub fn clear(&mut self)
+        ensures { self.new ≡ writing [] [] }
+    {
+        self.bytes.clear();
+        self.places.clear();
+    }
+
     /// The bytes that were written.
     pub fn finish(self) -> Vec<u8>
         ensures { result.items ≡ self.text }

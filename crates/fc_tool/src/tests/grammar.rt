@@ -76,15 +76,22 @@ fn tlv(alloc: Global, kind: u16, front: &[u8], inner: &[u8]) -> Result<Vec<u8>, 
     Ok(bytes)
 }
 
-// A select of the first LFB with one operation, in which so many PATH-DATA without IDs stand inside one another, the
-// innermost with this body.
-fn nested(alloc: Global, oper: u16, deep: u32, body: &[u8]) -> Result<Vec<u8>, Fail> {
+// The first LFB: its class and its instance.
+const FIRST: [u8; 8] = [0, 0, 0, 1, 0, 0, 0, 1];
+
+// An operation in which so many PATH-DATA without IDs stand inside one another, the innermost with this body.
+fn operation(alloc: Global, kind: u16, deep: u32, body: &[u8]) -> Result<Vec<u8>, Fail> {
     let mut inner = Vec::from_slice(alloc, body)?;
     for _ in 0..deep {
         inner = tlv(alloc, 0x0110, &[0; 4], inner.as_slice())?;
     }
-    let oper = tlv(alloc, oper, &[], inner.as_slice())?;
-    tlv(alloc, 0x1000, &[0, 0, 0, 1, 0, 0, 0, 1], oper.as_slice())
+    tlv(alloc, kind, &[], inner.as_slice())
+}
+
+// A select of the first LFB with this operation alone.
+fn nested(alloc: Global, kind: u16, deep: u32, body: &[u8]) -> Result<Vec<u8>, Fail> {
+    let operation = operation(alloc, kind, deep, body)?;
+    tlv(alloc, 0x1000, &FIRST, operation.as_slice())
 }
 
 // A message of a type with this body.
@@ -114,37 +121,47 @@ fn paths_stand_sixteen_deep_and_no_deeper(rt: HostRuntime) -> Result<(), Fail> {
     Ok(())
 }
 
-// So many parts of a value without bytes, whose ID is the greatest.
-fn parts(alloc: Global, count: u32) -> Result<Vec<u8>, Fail> {
+// So many PATH-DATA without IDs beside one another, whose values have no parts, and behind them these bytes.
+fn siblings(alloc: Global, count: u32, last: &[u8]) -> Result<Vec<u8>, Fail> {
     let mut bytes = Vec::new(alloc);
     for _ in 0..count {
-        bytes.extend_from_slice(&[0xff, 0xff, 0xff, 0xff, 0, 0, 0, 8])?;
+        bytes.extend_from_slice(&[0x01, 0x10, 0, 12, 0, 0, 0, 0, 0x01, 0x13, 0, 4])?;
     }
-    tlv(alloc, 0x0113, &[], bytes.as_slice())
+    bytes.extend_from_slice(last)?;
+    Ok(bytes)
 }
 
+// Nothing takes more text for its bytes than PATH-DATA sixteen deep, each with the word before parts of which there are
+// none; and of what is left, a part whose ID is the greatest.
 #[test]
 fn the_largest_text_of_a_message_is_written(rt: HostRuntime) -> Result<(), Fail> {
     let alloc = rt.alloc();
     let mut body = Vec::new(alloc);
-    for _ in 0..3 {
-        let select = nested(alloc, 0x0a, 16, parts(alloc, 8173)?.as_slice())?;
-        body.extend_from_slice(select.as_slice())?;
+    // The last three bytes of the first select stand where its length has padding.
+    let first = operation(alloc, 0x0a, 15, siblings(alloc, 5450, &[])?.as_slice())?;
+    let (counted, padding) = first.as_slice().split_last_chunk::<3>().ok_or("first")?;
+    body.extend_from_slice(tlv(alloc, 0x1000, &FIRST, counted)?.as_slice())?;
+    body.extend_from_slice(padding)?;
+    let part = [0x01, 0x13, 0, 12, 0xff, 0xff, 0xff, 0xff, 0, 0, 0, 8];
+    let parted = tlv(alloc, 0x0110, &[0; 4], &part)?;
+    let plain = siblings(alloc, 5449, &[])?;
+    for inner in [
+        siblings(alloc, 5448, parted.as_slice())?.as_slice(),
+        plain.as_slice(),
+        plain.as_slice(),
+    ] {
+        body.extend_from_slice(nested(alloc, 0x0a, 15, inner)?.as_slice())?;
     }
-    // There is room for one ID more, in the innermost PATH-DATA.
-    let id = [0, 0, 0, 1, 0xff, 0xff, 0xff, 0xff];
-    let innermost = tlv(alloc, 0x0110, &id, parts(alloc, 8171)?.as_slice())?;
-    let select = nested(alloc, 0x0a, 15, innermost.as_slice())?;
-    body.extend_from_slice(select.as_slice())?;
     let bytes = message(alloc, 0x14, body.as_slice())?;
     assert_eq!(rt; bytes.len(), 262_140);
     let (status, text) = shown(alloc, bytes, 65_536)?;
     assert_eq!(rt; status, 0);
-    // A line of 77 bytes; four times the select, the operation, 16 paths and the word before the parts, in 507; 11 for the
-    // ID; and 57 for each of the 32,690 parts.
-    assert_eq!(rt; text.len(), 1_865_446);
+    // A line of 77 bytes; four times the select, the operation and 15 paths, in 421; 86 for each of the 21,797 innermost;
+    // and 57 for the part.
+    assert_eq!(rt; text.len(), 1_876_360);
     assert!(rt;
-        text.as_slice().ends_with(b"                                        ilv 4294967295 -\n")
+        text.as_slice()
+            .ends_with(b"                                      sparse\n")
     );
     Ok(())
 }

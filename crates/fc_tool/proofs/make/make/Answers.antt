@@ -1,4 +1,4 @@
-use Rattle.fc_tool.proofs.Making.{make_kept, make_source, make_unflushed}
+use Rattle.fc_tool.proofs.Making.{make_kept, make_unflushed}
 use Rattle.fc_tool.proofs.make.make.Goals as goal
 
 pub returns-in-Ok-finish-clause-ends : goal.returns-in-Ok-finish-clause-ends

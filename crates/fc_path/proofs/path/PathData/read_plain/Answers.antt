@@ -1,8 +1,20 @@
+use Rattle.std.proofs.Common.{sym, ap, ◌∙◌}
+use Rattle.fc_path.specs.Plain.{behind}
 use Rattle.fc_path.specs.Reading.{end_of, path_at}
 use Rattle.fc_path.specs.declared.path.Body.TheVariants.{Full}
+use Rattle.fc_path.proofs.Shortcuts.{behind_back}
 use Rattle.fc_path.proofs.path.PathData.read_plain.Goals as goal
 
-pub returns : goal.returns
-returns c =
+pub returns-in_err-id-clause-none : goal.returns-in_err-id-clause-none
+returns-in_err-id-clause-none c = rw c.from_residual.ensures (λ id value e. c.in_err-id.ensures.none c.args.kind id (Full value) e)
+
+pub returns-in_err-value-clause-none : goal.returns-in_err-value-clause-none
+returns-in_err-value-clause-none c =
     let tlv = c.args.tlv.now in
-    c.in_ok-id.ensures c.args.kind (Full c.in_ok-value.value.now) (c.in_ok-value.ensures (path_at c.args.kind 15) tlv.place (end_of tlv))
+    rw c.from_residual-in_err-value.ensures (λ id value e.
+    c.in_err-value.ensures.none (path_at c.args.kind 15) tlv.place (end_of tlv) value (behind_back c.in_ok-id.id id _ (Full value) (sym (c.in_ok-id.ensures.found c.args.kind) ∙ e)))
+
+pub returns-clause-found : goal.returns-clause-found
+returns-clause-found c =
+    let tlv = c.args.tlv.now in
+    c.in_ok-id.ensures.found c.args.kind ∙ ap (behind c.in_ok-id.id) (c.in_ok-value.ensures.found (path_at c.args.kind 15) tlv.place (end_of tlv))
