@@ -99,7 +99,7 @@ impl CeId {
 
 /// One life of one controller (this profile's own): a round from 1 to 16,777,215, and in the low 8 bits the
 /// controller's number. Later rounds have greater epochs.
-#[derive(Clone, Copy, Debug, PartialEq, Eq, PartialOrd, Ord)]
+#[derive(Clone, Copy, Debug, PartialEq, Eq, PartialOrd, Ord, Hash)]
 pub struct Epoch {
     word: u32,
 }
@@ -155,7 +155,7 @@ impl Epoch {
 }
 
 /// A transaction (this profile's own): the life that made it, and its number within that life, from 1.
-#[derive(Clone, Copy, Debug, PartialEq, Eq, PartialOrd, Ord)]
+#[derive(Clone, Copy, Debug, PartialEq, Eq, PartialOrd, Ord, Hash)]
 pub struct TxnId {
     pub epoch: Epoch,
     pub number: u32,

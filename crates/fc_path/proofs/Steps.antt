@@ -121,7 +121,7 @@ pub body_shut : (kind : OperKind) (one : TlvItem → Result PathData PathFault) 
 body_shut kind one end items fault t rest leaf n r k is e =
     body_leaf kind one end items fault t rest n r k ∙ ap (λ q. q >>= λ leaf. shut beside rest.items rest.fault >>= λ _. Ok leaf) is ∙ ap (λ q. q >>= λ _. Ok leaf) e
 
-neither : (m k : ℕ) → 4 ≤ m → k ≤ m → (nat_lt m 4 || nat_lt m k) ≡ false
+pub neither : (m k : ℕ) → 4 ≤ m → k ≤ m → (nat_lt m 4 || nat_lt m k) ≡ false
 neither m k p q = grind arith
 
 -- what a PATH-DATA gives once its head is there

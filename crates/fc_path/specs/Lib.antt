@@ -1,8 +1,8 @@
 pub mod Canon
 pub mod Grammar
+pub mod Heads
 pub mod Kinds
 pub mod Leaves
-pub mod Plain
 pub mod Proper
 pub mod Reading
 pub mod Results

@@ -2,6 +2,7 @@
 #![tactic(auto)]
 
 mod fault;
+mod heads;
 mod kinds;
 mod laws;
 mod leaves;
@@ -16,6 +17,7 @@ mod tests;
 mod write;
 
 pub use fault::PathFault;
+pub use heads::{Ids, KeyRef, PathHead};
 pub use kinds::{Operation, holds_selects, operation_for};
 pub use laws::{
     faults_are_in_reading_order, reading_is_the_grammar, selects_are_unique,
@@ -23,10 +25,11 @@ pub use laws::{
 };
 pub use oper::{Leaf, Oper, OperKind, Select, Spot, Step};
 pub use path::{Body, Key, PathData};
-pub use read_path::read_only_outcome;
+pub use read_path::{read_only_outcome, read_outcome};
 pub use read_select::are_bytes;
 pub use results::fits_results;
 pub use stray::{
-    FULL_DATA, PATH_DATA, SELECT, is_known_in_select, misplaced, no_more, no_more_bodies,
+    FULL_DATA, PATH_DATA, RESULT, SELECT, SPARSE_DATA, beside, is_known_in_select, misplaced, no_more,
+    no_more_bodies,
 };
 pub use write::{put_ids, put_u32, write_leaf, write_outcome, write_response};

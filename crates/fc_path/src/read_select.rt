@@ -1,24 +1,17 @@
 // Reading operations and selects, with the first fault in reading order.
-ghost use Rattle.std.specs.Prelude.{◌≡◌, ◌≢◌, ◌%◌, ◌+◌, ◌<◌, ◌≤◌, ◌^◌, ◌++◌, ℕ, List as Items, false, None, Ok, Result, length, IfOk, IfSome, IfNone};
+ghost use Rattle.std.specs.Prelude.{◌≡◌, ◌%◌, ◌+◌, ◌<◌, ◌≤◌, ◌^◌, Ok, length, IfOk};
 ghost use Rattle.fc_path.specs.Stray.{Gives, misplaced as is_misplaced};
 ghost use Rattle.fc_wire.specs.Bytes.{AreBytes};
 ghost use Rattle.fc_path.specs.Grammar.{IsSelectOf};
 ghost use Rattle.fc_path.specs.declared.oper.Select.{Select as Selected};
-ghost use Rattle.fc_path.specs.Reading.{some_in, path_or, path_at, content_in, end_of, oper_at, operation_at, select_at};
-ghost use Rattle.fc_path.specs.Plain.{valued, bare, ended, with_id, behind, only_of};
-ghost use Rattle.fc_path.specs.declared.fault.PathFault.{PathFault as Fault};
-ghost use Rattle.fc_path.specs.declared.path.PathData.{PathData as Path};
-ghost use Rattle.fc_path.specs.declared.path.Body.{Body as Held};
-ghost use Rattle.fc_path.specs.declared.path.Body.TheVariants.{Full, Outcome};
-ghost use Rattle.fc_path.specs.declared.oper.OperKind.{OperKind as Kind};
-ghost use Rattle.fc_wire.specs.Tlvs.{TlvItem};
+ghost use Rattle.fc_path.specs.Reading.{some_in, path_or, path_at, oper_at, operation_at, select_at};
 
 use crate::kinds::{Operation, holds_selects, operation_for};
 use crate::read_path::{read_only_outcome, read_path};
-use crate::stray::{FULL_DATA, PATH_DATA, RESULT, SELECT, is_known_in_select, misplaced};
+use crate::stray::{PATH_DATA, SELECT, is_known_in_select, misplaced};
 use crate::{Oper, OperKind, PathData, PathFault, Select};
 use fc_base::{Code, List};
-use fc_wire::{Tlv, Tlvs, WireFault, read_u16, read_u32};
+use fc_wire::{Tlv, Tlvs, WireFault, read_u32};
 use std::alloc::Global;
 
 /// How deep PATH-DATA may nest.
@@ -162,104 +155,6 @@ impl PathData {
         }
         read_path(alloc, kind, DEPTH, tlv)
     }
-
-    /// The ID and the value of a PATH-DATA of an operation, which takes no memory; `None` exactly where the TLV is no
-    /// PATH-DATA that has one ID, no key and a whole value.
-    pub fn read_plain<'a>(kind: OperKind, tlv: &Tlv<'a>) -> Option<(u32, &'a [u8])>
-        ensures found { IfSome result (λ x. path_or is_misplaced (path_at kind 16) tlv.now ≡ Ok (valued x.0 x.1.now)) }
-        ensures none { IfNone result ((id : ℕ) (value : Items ℕ) → path_or is_misplaced (path_at kind 16) tlv.now ≢ Ok (valued id value)) }
-    {
-        let (id, tlvs) = behind_id(tlv)?;
-        let value = only_value(kind, tlvs)?;
-        Some((id, value))
-    }
-
-    /// The ID of a PATH-DATA of an operation, which takes no memory; `None` exactly where the TLV is no PATH-DATA that
-    /// has one ID, no key and no body.
-    pub fn read_bare(kind: OperKind, tlv: &Tlv) -> Option<u32>
-        ensures found { IfSome result (λ id. path_or is_misplaced (path_at kind 16) tlv.now ≡ Ok (bare id)) }
-        ensures none { IfNone result ((id : ℕ) → path_or is_misplaced (path_at kind 16) tlv.now ≢ Ok (bare id)) }
-    {
-        let (id, mut tlvs) = behind_id(tlv)?;
-        if !kind.takes_nothing() {
-            return None;
-        }
-        match tlvs.next() {
-            None => Some(id),
-            Some(_) => None,
-        }
-    }
-
-    /// The ID and the code of a PATH-DATA of an operation, which takes no memory; `None` exactly where the TLV is no
-    /// PATH-DATA that has one ID, no key and a result.
-    pub fn read_ended(kind: OperKind, tlv: &Tlv) -> Option<(u32, Code)>
-        ensures found { IfSome result (λ x. path_or is_misplaced (path_at kind 16) tlv.now ≡ Ok (ended x.0 x.1)) }
-        ensures none { IfNone result ((id code : ℕ) → path_or is_misplaced (path_at kind 16) tlv.now ≢ Ok (ended id code)) }
-    {
-        let (id, tlvs) = behind_id(tlv)?;
-        let code = only_code(kind, tlvs)?;
-        Some((id, code))
-    }
-}
-
-// The ID of a PATH-DATA that has one and no key, and the TLVs behind it.
-#[inline(always)]
-fn behind_id<'a>(tlv: &Tlv<'a>) -> Option<(u32, Tlvs<'a>)>
-    ensures found { IfSome result (λ x. (kind : Kind) → path_or is_misplaced (path_at kind 16) tlv.now ≡ behind x.0 (content_in kind (path_at kind 15) tlv.now.place false (end_of tlv.now) x.1.items x.1.fault)) }
-    ensures none { IfNone result ((kind : Kind) (id : ℕ) (body : Held) → path_or is_misplaced (path_at kind 16) tlv.now ≢ Ok (with_id id body)) }
-{
-    let padded = tlv.padded();
-    if tlv.kind != PATH_DATA || padded.len() < 8 {
-        return None;
-    }
-    if read_u16(padded, 2) != 1 || read_u16(padded, 0) >> 15 == 1 {
-        return None;
-    }
-    let (_, numbers) = padded.split_at(4);
-    let (_, inner) = padded.split_at(8);
-    Some((read_u32(numbers, 0), Tlvs::over(inner, tlv.place + 12)))
-}
-
-// The TLV that is left, where there is one and nothing else.
-#[inline(always)]
-fn only<'a>(mut tlvs: Tlvs<'a>) -> Option<Tlv<'a>>
-    ensures { result ≡ only_of tlvs.entry.items tlvs.entry.fault }
-{
-    let tlv = match tlvs.next() {
-        Some(Ok(tlv)) => tlv,
-        Some(Err(_)) => return None,
-        None => return None,
-    };
-    match tlvs.next() {
-        None => Some(tlv),
-        Some(_) => None,
-    }
-}
-
-// The value that a PATH-DATA without key holds, where it holds a whole value and nothing else.
-#[inline(always)]
-fn only_value<'a>(kind: OperKind, tlvs: Tlvs<'a>) -> Option<&'a [u8]>
-    ensures found { IfSome result (λ value. (one : TlvItem → Result Path Fault) (path end : ℕ) → content_in kind one path false end tlvs.entry.items tlvs.entry.fault ≡ Ok (None, Full value.now)) }
-    ensures none { IfNone result ((one : TlvItem → Result Path Fault) (path end : ℕ) (value : Items ℕ) → content_in kind one path false end tlvs.entry.items tlvs.entry.fault ≢ Ok (None, Full value)) }
-{
-    let tlv = only(tlvs)?;
-    if tlv.kind != FULL_DATA || !kind.takes_full() {
-        return None;
-    }
-    Some(tlv.body)
-}
-
-// The code that a PATH-DATA without key holds, where it holds a result and nothing else.
-#[inline(always)]
-fn only_code(kind: OperKind, tlvs: Tlvs) -> Option<Code>
-    ensures found { IfSome result (λ code. (one : TlvItem → Result Path Fault) (path end : ℕ) → content_in kind one path false end tlvs.entry.items tlvs.entry.fault ≡ Ok (None, Outcome code)) }
-    ensures none { IfNone result ((one : TlvItem → Result Path Fault) (path end code : ℕ) → content_in kind one path false end tlvs.entry.items tlvs.entry.fault ≢ Ok (None, Outcome code)) }
-{
-    let tlv = only(tlvs)?;
-    if tlv.kind != RESULT || tlv.body.len() != 4 || !kind.takes_outcome() {
-        return None;
-    }
-    Some(Code(tlv.body[0]))
 }
 
 /// That the items of a slice of bytes are bytes, for proofs: it does nothing.

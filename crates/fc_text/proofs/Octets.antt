@@ -1,8 +1,8 @@
 -- The digits of eight bytes, one by one.
-use Rattle.std.proofs.Common.{◌≡◌, ◌/◌, ◌%◌, ◌++◌, ℕ, List, [], ◌∷◌, length, slice_index, codes, decimal, None, append-nil, refl, arith, sym, ap, ◌∙◌, append_assoc, ◌+◌, ◌<◌, drop, drop-cons}
+use Rattle.std.proofs.Common.{◌≡◌, ◌/◌, ◌%◌, ◌++◌, ℕ, List, [], ◌∷◌, length, slice_index, codes, refl, arith, sym, ap, ◌∙◌, append_assoc, ◌+◌, ◌<◌, drop, drop-cons}
 use Rattle.std.proofs.lemmas.Grind.{flat_map-append}
 use Rattle.fc_base.specs.Hex.{hex, hex_digit}
-use Rattle.fc_text.specs.Text.{hex_text, full_text, path_line}
+use Rattle.fc_text.specs.Text.{hex_text, full_text}
 
 pub hex_text_8 : (xs : List ℕ) → length xs ≡ 8 → hex_text xs ≡ hex_digit (slice_index xs 0 / 16 % 16) ∷ hex_digit (slice_index xs 0 % 16) ∷ hex_digit (slice_index xs 1 / 16 % 16) ∷ hex_digit (slice_index xs 1 % 16) ∷ hex_digit (slice_index xs 2 / 16 % 16) ∷ hex_digit (slice_index xs 2 % 16) ∷ hex_digit (slice_index xs 3 / 16 % 16) ∷ hex_digit (slice_index xs 3 % 16) ∷ hex_digit (slice_index xs 4 / 16 % 16) ∷ hex_digit (slice_index xs 4 % 16) ∷ hex_digit (slice_index xs 5 / 16 % 16) ∷ hex_digit (slice_index xs 5 % 16) ∷ hex_digit (slice_index xs 6 / 16 % 16) ∷ hex_digit (slice_index xs 6 % 16) ∷ hex_digit (slice_index xs 7 / 16 % 16) ∷ hex_digit (slice_index xs 7 % 16) ∷ []
 unfolding hex
@@ -48,10 +48,19 @@ full_4 (x0 ∷ x1 ∷ []) e = absurd (omega arith)
 full_4 (x0 ∷ x1 ∷ x2 ∷ []) e = absurd (omega arith)
 full_4 (x0 ∷ x1 ∷ x2 ∷ x3 ∷ x4 ∷ xs) e = absurd (omega arith)
 
--- the line of one ID
-pub id_line : (id : ℕ) → path_line 3 (id ∷ []) None ≡ codes "      path " ++ (decimal id ++ codes "\n")
-unfolding path_line
-id_line id = ap (λ l. codes "      path " ++ (l ++ codes "\n")) (append-nil (decimal id))
+-- the line of a value of eight bytes
+pub full_8 : (xs : List ℕ) → length xs ≡ 8 → full_text 4 xs ≡ 32 ∷ 32 ∷ 32 ∷ 32 ∷ 32 ∷ 32 ∷ 32 ∷ 32 ∷ 102 ∷ 117 ∷ 108 ∷ 108 ∷ 32 ∷ hex_digit (slice_index xs 0 / 16 % 16) ∷ hex_digit (slice_index xs 0 % 16) ∷ hex_digit (slice_index xs 1 / 16 % 16) ∷ hex_digit (slice_index xs 1 % 16) ∷ hex_digit (slice_index xs 2 / 16 % 16) ∷ hex_digit (slice_index xs 2 % 16) ∷ hex_digit (slice_index xs 3 / 16 % 16) ∷ hex_digit (slice_index xs 3 % 16) ∷ hex_digit (slice_index xs 4 / 16 % 16) ∷ hex_digit (slice_index xs 4 % 16) ∷ hex_digit (slice_index xs 5 / 16 % 16) ∷ hex_digit (slice_index xs 5 % 16) ∷ hex_digit (slice_index xs 6 / 16 % 16) ∷ hex_digit (slice_index xs 6 % 16) ∷ hex_digit (slice_index xs 7 / 16 % 16) ∷ hex_digit (slice_index xs 7 % 16) ∷ 10 ∷ []
+unfolding hex full_text
+full_8 (x0 ∷ x1 ∷ x2 ∷ x3 ∷ x4 ∷ x5 ∷ x6 ∷ x7 ∷ []) e = refl
+full_8 ([]) e = absurd (omega arith)
+full_8 (x0 ∷ []) e = absurd (omega arith)
+full_8 (x0 ∷ x1 ∷ []) e = absurd (omega arith)
+full_8 (x0 ∷ x1 ∷ x2 ∷ []) e = absurd (omega arith)
+full_8 (x0 ∷ x1 ∷ x2 ∷ x3 ∷ []) e = absurd (omega arith)
+full_8 (x0 ∷ x1 ∷ x2 ∷ x3 ∷ x4 ∷ []) e = absurd (omega arith)
+full_8 (x0 ∷ x1 ∷ x2 ∷ x3 ∷ x4 ∷ x5 ∷ []) e = absurd (omega arith)
+full_8 (x0 ∷ x1 ∷ x2 ∷ x3 ∷ x4 ∷ x5 ∷ x6 ∷ []) e = absurd (omega arith)
+full_8 (x0 ∷ x1 ∷ x2 ∷ x3 ∷ x4 ∷ x5 ∷ x6 ∷ x7 ∷ x8 ∷ xs) e = absurd (omega arith)
 
 -- three pieces, one appended after the other
 pub three : (old a b c first second new : List ℕ) → first ≡ old ++ a → second ≡ first ++ b → new ≡ second ++ c → new ≡ old ++ (a ++ (b ++ c))

@@ -1,4 +1,5 @@
 // Decimal numbers.
+ghost use Rattle.fc_text.specs.Text.{id_text};
 ghost use Rattle.std.specs.Prelude.{◌≡◌, ◌++◌, ◌+◌, ◌/◌, ◌%◌, ◌∷◌, [], decimal, OnOk};
 
 use fc_base::Memory;
@@ -63,4 +64,30 @@ pub fn push_decimal(into: &mut Vec<u8>, n: u32) -> Result<(), Memory>
     push_decimal(into, n / 10000)?;
     into.extend_from_slice(&last_four(n))?;
     Ok(())
+}
+
+/// Appends a space and the number without leading zeros. Short numbers are appended at once.
+#[inline(always)]
+pub fn push_id(into: &mut Vec<u8>, n: u32) -> Result<(), Memory>
+    ensures { OnOk result (into.new.items ≡ into.old.items ++ id_text n) }
+{
+    if n < 10 {
+        into.extend_from_slice(&[b' ', b'0' + n as u8])?;
+        return Ok(());
+    }
+    if n < 100 {
+        into.extend_from_slice(&[b' ', last_digit(n / 10), last_digit(n)])?;
+        return Ok(());
+    }
+    if n < 1000 {
+        into.extend_from_slice(&[
+            b' ',
+            last_digit(n / 100),
+            last_digit(n / 10),
+            last_digit(n),
+        ])?;
+        return Ok(());
+    }
+    into.push(b' ')?;
+    push_decimal(into, n)
 }

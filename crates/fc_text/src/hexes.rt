@@ -72,8 +72,9 @@ pub fn sixteen_digits(n: u64) -> [u8; 16]
     ]
 }
 
+/// The digits of eight bytes.
 #[inline(always)]
-fn digits_of(b: &[u8; 8]) -> [u8; 16]
+pub fn digits_of(b: &[u8; 8]) -> [u8; 16]
     ensures { result ≡ hex_text b.now }
 {
     [

@@ -18,6 +18,7 @@ mod quick_lines;
 mod read_path;
 mod read_select;
 mod reading;
+mod tell_path;
 mod telling;
 #[cfg(test)]
 mod tests;

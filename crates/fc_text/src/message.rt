@@ -1,10 +1,10 @@
 // Messages to text.
-ghost use Rattle.std.specs.Prelude.{◌≡◌, ◌++◌, ◌+◌, ◌∷◌, [], None, OnOk, IfOk};
+ghost use Rattle.std.specs.Prelude.{◌≡◌, ◌++◌, ◌+◌, OnOk, IfOk};
 ghost use Rattle.std.specs.List.{flat_map};
 ghost use Rattle.fc_text.specs.Text.{body_text, code_text, content_text, fields_text, full_text, head_text, id_text, ilv_text, indent, key_text, message_text, number_text, oper_line, oper_text, path_line, path_text, response_text, select_line, select_text, selects_text, sparse_text};
 
 use crate::decimal::push_decimal;
-use crate::hexes::{digits_of_four, eight_digits, push_word, sixteen_digits, two_digits};
+use crate::hexes::{digits_of, digits_of_four, eight_digits, push_word, sixteen_digits, two_digits};
 use crate::names::{message_name, operation_name};
 use fc_base::{Code, Memory};
 use fc_msg::{Message, MsgBody};
@@ -180,9 +180,9 @@ pub fn push_line(into: &mut Vec<u8>, name: &[u8]) -> Result<(), Memory>
     Ok(())
 }
 
-// Two spaces for each level. The levels that are met most are appended at once.
+/// Two spaces for each level. The levels that are met most are appended at once.
 #[inline(always)]
-fn push_indent(into: &mut Vec<u8>, level: usize) -> Result<(), Memory>
+pub fn push_indent(into: &mut Vec<u8>, level: usize) -> Result<(), Memory>
     ensures { OnOk result (into.new.items ≡ into.old.items ++ indent level) }
 {
     if level == 3 {
@@ -218,8 +218,8 @@ pub fn push_code(into: &mut Vec<u8>, level: usize, code: Code) -> Result<(), Mem
     Ok(())
 }
 
-// The level below. There is no memory for so many that they can't be counted.
-fn below(level: usize) -> Result<usize, Memory>
+/// The level below. There is no memory for so many that they can't be counted.
+pub fn below(level: usize) -> Result<usize, Memory>
     ensures { IfOk result (λ n. n ≡ level + 1) }
 {
     match level.checked_add(1) {
@@ -327,6 +327,33 @@ fn four_bytes(value: &[u8; 4]) -> [u8; 22]
     ]
 }
 
+// The line of a whole value of eight bytes, at the fourth level.
+#[inline(always)]
+fn eight_bytes(value: &[u8; 8]) -> [u8; 30]
+    ensures { result ≡ full_text 4 value.now }
+{
+    let d = digits_of(value);
+    [
+        b' ', b' ', b' ', b' ', b' ', b' ', b' ', b' ', b'f', b'u', b'l', b'l', b' ', d[0], d[1],
+        d[2], d[3], d[4], d[5], d[6], d[7], d[8], d[9], d[10], d[11], d[12], d[13], d[14], d[15],
+        b'\n',
+    ]
+}
+
+// The line of a whole value of eight bytes at the fourth level, or of another one.
+#[inline(always)]
+fn push_eight(into: &mut Vec<u8>, value: &[u8]) -> Result<(), Memory>
+    ensures { OnOk result (into.new.items ≡ into.old.items ++ full_text 4 value.now) }
+{
+    if let Some((eight, more)) = value.split_first_chunk::<8>() {
+        if more.is_empty() {
+            into.extend_from_slice(&eight_bytes(eight))?;
+            return Ok(());
+        }
+    }
+    push_full(into, 4, value)
+}
+
 /// The line of a whole value at the fourth level. That of four bytes, which is met most, is appended at once.
 #[inline(always)]
 pub fn push_value(into: &mut Vec<u8>, value: &[u8]) -> Result<(), Memory>
@@ -338,17 +365,18 @@ pub fn push_value(into: &mut Vec<u8>, value: &[u8]) -> Result<(), Memory>
             return Ok(());
         }
     }
-    push_full(into, 4, value)
+    push_eight(into, value)
 }
 
-/// The line of a PATH-DATA with one ID and no key, at the third level.
-pub fn push_id_line(into: &mut Vec<u8>, id: u32) -> Result<(), Memory>
-    ensures { OnOk result (into.new.items ≡ into.old.items ++ path_line 3 (id ∷ []) None) }
+/// The line of a whole value. Those of four and of eight bytes at the fourth level are appended at once.
+#[inline(always)]
+pub fn push_whole(into: &mut Vec<u8>, level: usize, value: &[u8]) -> Result<(), Memory>
+    ensures { OnOk result (into.new.items ≡ into.old.items ++ full_text level value.now) }
 {
-    into.extend_from_slice(b"      path ")?;
-    push_decimal(into, id)?;
-    into.extend_from_slice(b"\n")?;
-    Ok(())
+    if level == 4 {
+        return push_value(into, value);
+    }
+    push_full(into, level, value)
 }
 
 #[tactic(auto, unfolding(crate::specs::Text::sparse_text))]

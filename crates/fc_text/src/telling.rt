@@ -1,7 +1,6 @@
 // Reads the operations of messages and appends the text of each part as soon as it is read.
 ghost use Rattle.std.specs.Prelude.{◌≡◌, ◌≤◌, ◌<◌, ◌+◌, ◌%◌, ◌^◌, ◌++◌, length, OnOk};
 ghost use Rattle.std.specs.List.{flat_map};
-ghost use Rattle.fc_path.specs.Plain.{bare, ended, valued};
 ghost use Rattle.fc_path.specs.Stray.{misplaced as is_misplaced};
 ghost use Rattle.fc_path.specs.Reading.{each_in, some_in, path_or, path_at, oper_at, operation_at, select_at};
 ghost use Rattle.fc_path.specs.declared.kinds.Operation.TheVariants.{Paths};
@@ -9,92 +8,25 @@ ghost use Rattle.fc_text.specs.Text.{oper_text, path_text, select_text, selects_
 ghost use Rattle.fc_text.specs.Appending.{Tells};
 
 use crate::message::{
-    push_code, push_id_line, push_line, push_path, push_response, push_select_line, push_value,
+    push_line, push_response, push_select_line,
 };
 use crate::names::operation_name;
-use fc_base::{Code, Memory};
+use crate::tell_path::tell_path_at;
 use fc_path::{
-    OperKind, Operation, PathData, PathFault, SELECT, are_bytes, holds_selects, is_known_in_select,
+    OperKind, Operation, PATH_DATA, PathFault, SELECT, are_bytes, holds_selects, is_known_in_select,
     misplaced, operation_for, read_only_outcome,
 };
 use fc_wire::{Tlv, Tlvs, WireFault, read_u32};
 use std::alloc::Global;
 
-// The PATH-DATA of an operation, by way of memory.
-fn tell_any_path(
-    alloc: Global,
-    into: &mut Vec<u8>,
-    kind: OperKind,
-    tlv: &Tlv,
-) -> Result<(), PathFault>
-    ensures { Tells result (path_or is_misplaced (path_at kind 16) tlv.now) (λ path. path_text path 3) into.old.items into.new.items }
-{
-    let path = PathData::read(alloc, kind, tlv)?;
-    push_path(into, 3, &path)?;
-    Ok(())
-}
-
-// The lines of a PATH-DATA with one ID, no key and a whole value.
-#[inline(always)]
-fn push_plain(into: &mut Vec<u8>, id: u32, value: &[u8]) -> Result<(), Memory>
-    ensures { OnOk result (into.new.items ≡ into.old.items ++ path_text (valued id value.now) 3) }
-{
-    push_id_line(into, id)?;
-    push_value(into, value)?;
-    Ok(())
-}
-
-// The line of a PATH-DATA with one ID, no key and no body.
-#[inline(always)]
-fn push_bare(into: &mut Vec<u8>, id: u32) -> Result<(), Memory>
-    ensures { OnOk result (into.new.items ≡ into.old.items ++ path_text (bare id) 3) }
-{
-    push_id_line(into, id)
-}
-
-// The lines of a PATH-DATA with one ID, no key and a result.
-#[inline(always)]
-fn push_ended(into: &mut Vec<u8>, id: u32, code: Code) -> Result<(), Memory>
-    ensures { OnOk result (into.new.items ≡ into.old.items ++ path_text (ended id code) 3) }
-{
-    push_id_line(into, id)?;
-    push_code(into, 4, code)?;
-    Ok(())
-}
-
-// The PATH-DATA of an operation, where it has no whole value.
-fn tell_other_path(
-    alloc: Global,
-    into: &mut Vec<u8>,
-    kind: OperKind,
-    tlv: &Tlv,
-) -> Result<(), PathFault>
-    ensures { Tells result (path_or is_misplaced (path_at kind 16) tlv.now) (λ path. path_text path 3) into.old.items into.new.items }
-{
-    if let Some(id) = PathData::read_bare(kind, tlv) {
-        push_bare(into, id)?;
-        return Ok(());
-    }
-    match PathData::read_ended(kind, tlv) {
-        Some((id, code)) => {
-            push_ended(into, id, code)?;
-            Ok(())
-        }
-        None => tell_any_path(alloc, into, kind, tlv),
-    }
-}
-
 // The PATH-DATA of an operation.
-fn tell_path(alloc: Global, into: &mut Vec<u8>, kind: OperKind, tlv: &Tlv) -> Result<(), PathFault>
+fn tell_path(into: &mut Vec<u8>, kind: OperKind, tlv: &Tlv) -> Result<(), PathFault>
     ensures { Tells result (path_or is_misplaced (path_at kind 16) tlv.now) (λ path. path_text path 3) into.old.items into.new.items }
 {
-    match PathData::read_plain(kind, tlv) {
-        Some((id, value)) => {
-            push_plain(into, id, value)?;
-            Ok(())
-        }
-        None => tell_other_path(alloc, into, kind, tlv),
+    if tlv.kind != PATH_DATA {
+        return Err(misplaced(tlv));
     }
+    tell_path_at(into, kind, 16, 3, tlv)
 }
 
 // All PATH-DATA of an operation that are left.
@@ -109,7 +41,7 @@ fn tell_more_paths(
     'items: while let Some(next) = tlvs.next() {
         match next {
             Err(fault) => return Err(PathFault::Wire(fault)),
-            Ok(tlv) => tell_path(alloc, into, kind, &tlv)?,
+            Ok(tlv) => tell_path(into, kind, &tlv)?,
         }
     }
     Ok(())
@@ -129,7 +61,7 @@ fn tell_paths(
         None => Err(PathFault::WrongBody { place: end }),
         Some(Err(fault)) => Err(PathFault::Wire(fault)),
         Some(Ok(tlv)) => {
-            tell_path(alloc, into, kind, &tlv)?;
+            tell_path(into, kind, &tlv)?;
             tell_more_paths(alloc, into, kind, tlvs)
         }
     }

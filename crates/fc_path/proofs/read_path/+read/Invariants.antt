@@ -12,9 +12,6 @@ decreases-read_nested l = 4 * l.depth + 1
 abbrev pub decreases-read_body : goal.decreases-read_body
 decreases-read_body l = 4 * l.depth + 2
 
-abbrev pub decreases-read_content : goal.decreases-read_content
-decreases-read_content l = 4 * l.depth + 3
-
 abbrev pub invariant-read_nested-items : goal.invariant-read_nested-items
 invariant-read_nested-items l =
     (each_in (path_or beside (path_at l.kind l.depth)) l.tlvs.items l.tlvs.fault >>= λ more. Ok (l.paths ++ more))

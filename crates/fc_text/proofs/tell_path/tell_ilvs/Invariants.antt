@@ -1,0 +1,13 @@
+use Rattle.std.proofs.Common.{◌≡◌, ◌++◌, length, Ok}
+use Rattle.std.specs.List.{flat_map}
+use Rattle.fc_path.specs.Stray.{◌>>=◌}
+use Rattle.fc_path.specs.Reading.{sparse_in}
+use Rattle.fc_text.specs.Appending.{told}
+use Rattle.fc_text.specs.Text.{ilv_text}
+use Rattle.fc_text.proofs.tell_path.tell_ilvs.Given as goal
+
+abbrev pub invariant-items : goal.invariant-items
+invariant-items l = told (sparse_in l.ilvs.items l.ilvs.fault) (flat_map (ilv_text l.level)) l.into.items ≡ told (sparse_in l.fn.ilvs.items l.fn.ilvs.fault) (flat_map (ilv_text l.level)) l.fn.into.items
+
+abbrev pub decreases-items : goal.decreases-items
+decreases-items l = length l.ilvs.items
