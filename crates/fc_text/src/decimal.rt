@@ -80,12 +80,7 @@ pub fn push_id(into: &mut Vec<u8>, n: u32) -> Result<(), Memory>
         return Ok(());
     }
     if n < 1000 {
-        into.extend_from_slice(&[
-            b' ',
-            last_digit(n / 100),
-            last_digit(n / 10),
-            last_digit(n),
-        ])?;
+        into.extend_from_slice(&[b' ', last_digit(n / 100), last_digit(n / 10), last_digit(n)])?;
         return Ok(());
     }
     into.push(b' ')?;

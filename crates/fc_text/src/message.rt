@@ -4,7 +4,9 @@ ghost use Rattle.std.specs.List.{flat_map};
 ghost use Rattle.fc_text.specs.Text.{body_text, code_text, content_text, fields_text, full_text, head_text, id_text, ilv_text, indent, key_text, message_text, number_text, oper_line, oper_text, path_line, path_text, response_text, select_line, select_text, selects_text, sparse_text};
 
 use crate::decimal::push_decimal;
-use crate::hexes::{digits_of, digits_of_four, eight_digits, push_word, sixteen_digits, two_digits};
+use crate::hexes::{
+    digits_of, digits_of_four, eight_digits, push_word, sixteen_digits, two_digits,
+};
 use crate::names::{message_name, operation_name};
 use fc_base::{Code, Memory};
 use fc_msg::{Message, MsgBody};

@@ -7,14 +7,12 @@ ghost use Rattle.fc_path.specs.declared.kinds.Operation.TheVariants.{Paths};
 ghost use Rattle.fc_text.specs.Text.{oper_text, path_text, select_text, selects_text};
 ghost use Rattle.fc_text.specs.Appending.{Tells};
 
-use crate::message::{
-    push_line, push_response, push_select_line,
-};
+use crate::message::{push_line, push_response, push_select_line};
 use crate::names::operation_name;
 use crate::tell_path::tell_path_at;
 use fc_path::{
-    OperKind, Operation, PATH_DATA, PathFault, SELECT, are_bytes, holds_selects, is_known_in_select,
-    misplaced, operation_for, read_only_outcome,
+    OperKind, Operation, PATH_DATA, PathFault, SELECT, are_bytes, holds_selects,
+    is_known_in_select, misplaced, operation_for, read_only_outcome,
 };
 use fc_wire::{Tlv, Tlvs, WireFault, read_u32};
 use std::alloc::Global;
