@@ -2,7 +2,7 @@
 use Rattle.std.proofs.Common.{◌≡◌, ℕ, ◌<◌, ◌==◌, ◌&&◌, not, Bool, true, false, cond, nat_le, List, [], ◌∷◌, ◌++◌, length, Option, Some, None, ◌⊎◌, inl, inr, ⊎_elim, refl, sym, ap, ◌∙◌, subst, arith, eqb-true, eq-eqb}
 use Rattle.fc_protocol.specs.Collections.{among}
 use Rattle.fc_agreement.specs.Core.{Element, Core, settled, to}
-use Rattle.fc_protocol.specs.ElementMachine.{Circumstance, acts, Acts, after, idles, admits, rises_above}
+use Rattle.fc_protocol.specs.ElementMachine.{Circumstance, acts, Acts, after, idles, admits, rises_above, shows}
 use Rattle.fc_protocol.specs.Floors.{is_below, held_under, forgotten, floor_code}
 use Rattle.fc_protocol.specs.Messages.{same, is_name, Body, Claim, Sot, Mot, Eot, Trcomp, Abt, Floor, Malformed, Plain, Ask, Ask_record}
 use Rattle.fc_protocol.specs.Phases.{Turn, keeps, becomes, starting, continuing, preparing, settling, failed, with_rest, opening, adding, aborting}
@@ -383,6 +383,24 @@ module _ (x : Txn) (parts : List ℕ) (h : Past) (fs : List Fact) where
     good = i.before.good;
   }
 
+  -- which code the response of a start or a change shows is no matter
+  shown_acted : (p : ℕ) (b : Body) (fl : Option Txn) (code : ℕ) (r : Acts) → (b ≡ Eot x → ⊥) → (b ≡ Trcomp x → ⊥) → (b ≡ Abt x → ⊥) → Acted p b fl r → Acted p b fl (shows code r)
+  shown_acted p b fl code r u v w a = record {
+    core = a.core;
+    turned = a.turned;
+    epoch = a.epoch;
+    state = a.state;
+    gone = a.gone;
+    floor = a.floor;
+    entries = a.entries;
+    single = a.single;
+    prepared = λ _ e. absurd (u e);
+    completed = λ _ e. absurd (v e);
+    aborted = λ _ e. absurd (w e);
+    marks = a.marks;
+    good = a.good;
+  }
+
   -- a new floor: what is below it is not held, and its record goes
   floored_acted : (p : ℕ) (fl : Option Txn) (f : Txn) (ns : List TxnEntry) (code : ℕ) (b : Bool) → (b ≡ true → (is_below f fl ≡ false) × (held_under f ns ≡ false)) → Given p fl ns
       → Acted p (Floor f) fl (cond b (record { records = forgotten f ns; floor = Some f; code = 0; facts = [] }) (idles fl ns code))
@@ -408,17 +426,19 @@ module _ (x : Txn) (parts : List ℕ) (h : Past) (fs : List Fact) where
       let fits = admits p e y ps o.strange sc in
       let part = among p ps && (rises_above 0 ps && nat_le (length ps) 64) in
       let takes = part && (not o.strange && is_scope sc) in
+      shown_acted p (Sot y ps sc) fl _ _ (λ e. cc) (λ e. cc) (λ e. cc) (
       acted p (Sot y ps sc) (opening fits (is_below y fl) (clashes sc ns) (is_packed ns) o.rest (state_of y ns)) y ps sc fl ns i (opening_idle fits (is_below y fl) (clashes sc ns) (is_packed ns) o.rest (state_of y ns))
       (λ k b. subst (λ v. Row x parts h.core p (opening fits (is_below y fl) (clashes sc ns) (is_packed ns) o.rest v) (state_of x ns) ps fs) (ap (λ v. state_of v ns) (sym k))
       (opening_row x parts h.core p fits (is_below y fl) (clashes sc ns) (is_packed ns) o.rest (state_of x ns) ps fs i.before (i.state b)
       (λ f. (ap (among p) (sym (m k).1) ∙ both_first (among p ps) _ (both_first part _ (both_second (not (y.number == 0)) takes (both_second (y.epoch == e) _ f))), (m k).0, (m k).1, (m k).2.3))))
       (λ t n. (opening_lively fits (is_below y fl) (clashes sc ns) (is_packed ns) o.rest (state_of y ns) t n, λ _ k. let v = m k in ((λ _. v.1), (let low : epoch_at p ≡ x.epoch = v.0 in omega arith), v.2)))
-      (λ _ s a. ⊎_elim (λ u. let f : Sot y ps sc ≡ Eot x = u.0 in cc) (λ u. ⊎_elim (λ v. let f : Sot y ps sc ≡ Trcomp x = v.0 in cc) (λ v. let f : Sot y ps sc ≡ Abt x = v.0 in cc) u) a)
+      (λ _ s a. ⊎_elim (λ u. let f : Sot y ps sc ≡ Eot x = u.0 in cc) (λ u. ⊎_elim (λ v. let f : Sot y ps sc ≡ Trcomp x = v.0 in cc) (λ v. let f : Sot y ps sc ≡ Abt x = v.0 in cc) u) a))
   acted_of p e o (Mot y n) fl ns at i m =
+      shown_acted p (Mot y n) fl _ _ (λ e. cc) (λ e. cc) (λ e. cc) (
       acted p (Mot y n) (adding o.rest (state_of y ns)) y [] [] fl ns i (λ _. adding_idle o.rest (state_of y ns))
       (λ k b. subst (λ v. Row x parts h.core p (adding o.rest v) (state_of x ns) [] fs) (ap (λ v. state_of v ns) (sym k)) (adding_row x parts h.core p o.rest (state_of x ns) fs i.before (i.state b)))
       (fits_none p y [] [] _ (state_of y ns) (adding_lively o.rest (state_of y ns)) (adding_absent o.rest (state_of y ns)))
-      (λ _ s a. ⊎_elim (λ u. let f : Mot y n ≡ Eot x = u.0 in cc) (λ u. ⊎_elim (λ v. let f : Mot y n ≡ Trcomp x = v.0 in cc) (λ v. let f : Mot y n ≡ Abt x = v.0 in cc) u) a)
+      (λ _ s a. ⊎_elim (λ u. let f : Mot y n ≡ Eot x = u.0 in cc) (λ u. ⊎_elim (λ v. let f : Mot y n ≡ Trcomp x = v.0 in cc) (λ v. let f : Mot y n ≡ Abt x = v.0 in cc) u) a))
   acted_of p e o (Eot y) fl ns at i m =
       acted p (Eot y) (preparing (state_of y ns)) y [] [] fl ns i (λ _. preparing_idle (state_of y ns))
       (λ k b. subst (λ v. Row x parts h.core p (preparing v) (state_of x ns) [] fs) (ap (λ v. state_of v ns) (sym k)) (preparing_row x parts h.core p (state_of x ns) fs i.before (i.state b) (m k)))

@@ -1,16 +1,17 @@
 -- An idle element takes the next message of its master, where nothing goes wrong.
-use Rattle.std.proofs.Common.{◌≡◌, ℕ, ◌+◌, ◌==◌, ◌&&◌, true, false, List, [], ◌∷◌, Some, None, ⊎_elim, refl, ap, ◌∙◌, arith, eqb-true, eq-eqb}
+use Rattle.std.proofs.Common.{◌≡◌, ℕ, ◌+◌, ◌==◌, ◌&&◌, Bool, true, false, List, [], ◌∷◌, Option, Some, None, ⊎_elim, refl, ap, ◌∙◌, arith, eqb-true, eq-eqb}
 use Rattle.fc_base.specs.Ids.{Txn}
 use Rattle.fc_agreement.specs.CleanRound.{Smooth}
-use Rattle.fc_protocol.specs.ElementMachine.{ElementState, Circumstance, acts, after, admits, only_says, next_with, by_verdict, configured, by_body, hears}
+use Rattle.fc_protocol.specs.ElementMachine.{ElementState, Circumstance, acts, Acts, shows, after, admits, only_says, next_with, by_verdict, configured, by_body, hears}
 use Rattle.fc_protocol.specs.Fence.{judge}
 use Rattle.fc_protocol.specs.Floors.{is_below}
 use Rattle.fc_protocol.specs.Messages.{Stamp, Body, Sot, Mot, Eot, Trcomp, claim_of}
-use Rattle.fc_protocol.specs.Phases.{opening, adding, preparing, settling}
+use Rattle.fc_protocol.specs.Phases.{shown_code, opening, adding, preparing, settling}
 use Rattle.fc_protocol.specs.Records.{state_of, write, clashes, is_packed}
 use Rattle.fc_protocol.specs.Scopes.{Scope}
 use Rattle.fc_protocol.specs.Trace.{Opened_at, Prepared_at, Settled_at}
 use Rattle.fc_protocol.specs.declared.states.Decision.TheVariants.{Complete}
+use Rattle.fc_protocol.specs.declared.states.TxnState.{TxnState}
 use Rattle.fc_protocol.specs.declared.states.TxnState.TheVariants.{Started as RecordStarted, Prepared as RecordPrepared, Completed as RecordCompleted}
 use Rattle.fc_protocol.specs.declared.verdict.Verdict.TheVariants.{Unclaimed, Stale, Again, Gap, Next}
 use Rattle.fc_protocol.proofs.Basics.{cond_true, cond_false, and_true, both}
@@ -47,14 +48,16 @@ module _ (p : ℕ) (el : ElementState) (k n : ℕ) (c : Circumstance) (x : Expec
       → hears p el k c m (Sot y ps sc) ≡ next_with el false m (record { records = write y ps sc RecordStarted el.records; floor = el.floor; code = 0; facts = Opened_at p y ps ∷ [] })
   sot_taken y ps sc a h f s b =
       let ns = el.records in
+      let go : Bool → Bool → Bool → Bool → ℕ → Option TxnState → Acts = λ fits below clash full rest t. shows (shown_code (opening fits below clash full 0 t).code rest c.shown) (after p (opening fits below clash full rest t) y ps sc el.floor ns) in
       heard (Sot y ps sc) ∙ taken (Sot y ps sc) refl ∙ ap (next_with el false m)
-      (ap (λ v. after p (opening (admits p el.epoch y ps v sc) (is_below y el.floor) (clashes sc ns) (is_packed ns) c.rest (state_of y ns)) y ps sc el.floor ns) x.smooth.known ∙ ap (λ v. after p (opening v (is_below y el.floor) (clashes sc ns) (is_packed ns) c.rest (state_of y ns)) y ps sc el.floor ns) a
-      ∙ ap (λ v. after p (opening true v (clashes sc ns) (is_packed ns) c.rest (state_of y ns)) y ps sc el.floor ns) b ∙ ap (λ v. after p (opening true false v (is_packed ns) c.rest (state_of y ns)) y ps sc el.floor ns) h ∙ ap (λ v. after p (opening true false false v c.rest (state_of y ns)) y ps sc el.floor ns) f
-      ∙ ap (λ v. after p (opening true false false false v (state_of y ns)) y ps sc el.floor ns) x.smooth.succeeds ∙ ap (λ v. after p (opening true false false false 0 v) y ps sc el.floor ns) s)
+      (ap (λ v. go (admits p el.epoch y ps v sc) (is_below y el.floor) (clashes sc ns) (is_packed ns) c.rest (state_of y ns)) x.smooth.known ∙ ap (λ v. go v (is_below y el.floor) (clashes sc ns) (is_packed ns) c.rest (state_of y ns)) a
+      ∙ ap (λ v. go true v (clashes sc ns) (is_packed ns) c.rest (state_of y ns)) b ∙ ap (λ v. go true false v (is_packed ns) c.rest (state_of y ns)) h ∙ ap (λ v. go true false false v c.rest (state_of y ns)) f
+      ∙ ap (λ v. go true false false false v (state_of y ns)) x.smooth.succeeds ∙ ap (λ v. go true false false false 0 v) s)
 
   pub mot_taken : (y : Txn) (i : ℕ) → state_of y el.records ≡ Some RecordStarted → hears p el k c m (Mot y i) ≡ next_with el false m (record { records = el.records; floor = el.floor; code = 0; facts = [] })
   mot_taken y i s =
-      heard (Mot y i) ∙ taken (Mot y i) refl ∙ ap (next_with el false m) (ap (λ v. after p (adding v (state_of y el.records)) y [] [] el.floor el.records) x.smooth.succeeds ∙ ap (λ v. after p (adding 0 v) y [] [] el.floor el.records) s)
+      heard (Mot y i) ∙ taken (Mot y i) refl ∙ ap (next_with el false m) (ap (λ v. shows (shown_code (adding 0 (state_of y el.records)).code v c.shown) (after p (adding v (state_of y el.records)) y [] [] el.floor el.records)) x.smooth.succeeds
+      ∙ ap (λ v. shows (shown_code (adding 0 v).code 0 c.shown) (after p (adding 0 v) y [] [] el.floor el.records)) s)
 
   pub eot_taken : (y : Txn) → state_of y el.records ≡ Some RecordStarted → hears p el k c m (Eot y) ≡ next_with el false m (record { records = write y [] [] RecordPrepared el.records; floor = el.floor; code = 0; facts = Prepared_at p y ∷ [] })
   eot_taken y s = heard (Eot y) ∙ taken (Eot y) refl ∙ ap (next_with el false m) (ap (λ v. after p (preparing v) y [] [] el.floor el.records) s)

@@ -22,11 +22,11 @@ lone = record { elements = 1 ∷ []; controllers = first_controller ∷ []; firs
 
 -- what comes with a change may not be written
 abbrev pub refusing : Circumstance
-refusing = record { unheard = false; misfit = 0; quiet = false; rest = read_only; plain = 0; touches = []; strange = false; shape = 0; others = [] }
+refusing = record { unheard = false; misfit = 0; quiet = false; rest = read_only; shown = read_only; plain = 0; touches = []; strange = false; shape = 0; others = [] }
 
 -- the message is lost on the element
 abbrev pub lost : Circumstance
-lost = record { unheard = true; misfit = 0; quiet = false; rest = 0; plain = 0; touches = []; strange = false; shape = 0; others = [] }
+lost = record { unheard = true; misfit = 0; quiet = false; rest = 0; shown = 0; plain = 0; touches = []; strange = false; shape = 0; others = [] }
 
 -- a message arrives and all goes well
 abbrev pub deliver : ℕ → Step

@@ -9,8 +9,8 @@ use Rattle.fc_machine.specs.ElementState.{Element, tx}
 use Rattle.fc_machine.specs.Ground.{Ground}
 use Rattle.fc_machine.specs.Messages.{Configuring, Asked, Ask_held, Ask_one, Ask_other, Answer, Told, Message, Setup, Beat, Response, Says, Notice, Accepted, Teardown, Beat_down, Query, Configure}
 use Rattle.fc_machine.specs.Transactions.{all_get}
-use Rattle.fc_machine.specs.Views.{config_body, query_body, view, view_told, views, turns, aside, peers_out, by_fence, refused_aside, of_mode, of_config, of_query, if_associate, of_outs, circumstance_of, Goes}
-use Rattle.fc_headline.proofs.Viewed.{Fits, first_all, gives_fit, verdict_fits, views_append}
+use Rattle.fc_machine.specs.Views.{config_body, query_body, view, view_told, views, turns, quiet_by, aside, peers_out, by_fence, refused_aside, of_mode, of_config, of_query, if_associate, of_outs, circumstance_of, Goes}
+use Rattle.fc_headline.proofs.Viewed.{Fits, says_each_if, gives_fit, verdict_fits, views_append}
 use Rattle.fc_protocol.specs.Codes.{invalid_destination, invalid_flags}
 use Rattle.fc_protocol.specs.ElementMachine as protocol
 use Rattle.fc_protocol.specs.ElementMachine.{Circumstance, ElementState, only_says, hears, reply, configured, by_body}
@@ -66,10 +66,10 @@ module _ {Config Op Subs : Type 0} (g : Ground Config Op Subs) where
 
   refused_way : (p k source : ℕ) (el : Element Config Op Subs) (m : Configuring Op) (code : ℕ) → (code == 0) ≡ false → Way (refused_aside g el m code) p k source el (Request m.stamp (config_body m.body)) (gives g el k m (all_get g el m code))
   refused_way p k source el m code z =
-      let quiet = not (wants m.ack (all_get g el m code).codes) in
+      let quiet = quiet_by m.ack (all_get g el m code).codes (all_get g el m code).shown in
       let c = refused_aside g el m code in
       let e : hears p (tx el) source c m.stamp (config_body m.body) ≡ only_says (tx el) (reply quiet m.stamp code) = config_way p (tx el) source c m.stamp m.body ∙ cond_false (code == 0) _ _ z in
-      subst (λ h. Fits g p k (gives g el k m (all_get g el m code)) h c.others) (sym e) (gives_fit g p k el m (all_get g el m code) code refl refl refl (first_all code m.more))
+      subst (λ h. Fits g p k (gives g el k m (all_get g el m code)) h c.others) (sym e) (gives_fit g p k el m (all_get g el m code) code refl refl refl (says_each_if m.bare code m.more))
 
   mode_way : (p k source : ℕ) (el : Element Config Op Subs) (m : Configuring Op) (o : Option Mode) → Way (of_mode g p el k source m o) p k source el (Request m.stamp (config_body m.body)) (by_mode g p el k source m o)
   mode_way p k source el m None = refused_way p k source el m invalid_flags refl

@@ -148,23 +148,23 @@ module _ {Config Op Subs : Type 0} (g : Ground Config Op Subs) (law : Lawful g) 
         (subst (λ w. Clean g.effect (folded g.effect c w) ops) (sym (kept_held g law x ps sc Started ns refl (λ t i. not_none _ t (state_of x (bares ns)) i e))) v.0)
         (same_folds g first p fl law c (written x ps sc Started ns) new fs (refl, tt) (held_folds g first p fl law x ps sc Started c ns fs refl (goes_none Started (state_of x (bares ns)) e) (λ _. k) low f))
 
-    starts_if : (b : Bool) (x : Txn) (ps : List ℕ) (sc : List Place) (ops : List Op) (code : ℕ) (cs : List ℕ) → (code == 0) ≡ b → state_of x (bares ns) ≡ None → clashes sc (bares ns) ≡ false → is_below x fl ≡ false
+    starts_if : (b : Bool) (x : Txn) (ps : List ℕ) (sc : List Place) (ops : List Op) (code : ℕ) (cs ds : List ℕ) → (code == 0) ≡ b → state_of x (bares ns) ≡ None → clashes sc (bares ns) ≡ false → is_below x fl ≡ false
         → (code ≡ 0 → Clean g.effect (folded g.effect c (held_ops ns)) ops × AllOf (Lies g sc) ops)
-        → let t = failed (not b) code (becomes Started 0 (Opens ∷ [])) in FoldsDid fs (and_adds g (t.code == 0) p x ops (turned g p el x ps sc t cs))
-    starts_if true x ps sc ops code cs e i k low v = opened_folds x ps sc ops i k low (v (eqb-true code 0 e))
-    starts_if false x ps sc ops code cs e i k low v =
+        → let t = failed (not b) code (becomes Started 0 (Opens ∷ [])) in FoldsDid fs (and_adds g (t.code == 0) p x ops (turned g p el x ps sc t cs ds))
+    starts_if true x ps sc ops code cs ds e i k low v = opened_folds x ps sc ops i k low (v (eqb-true code 0 e))
+    starts_if false x ps sc ops code cs ds e i k low v =
         let t = failed true code (becomes Started 0 (Opens ∷ [])) in
-        subst (λ w. FoldsDid fs (and_adds g w p x ops (turned g p el x ps sc t cs))) (sym e) (same_folds g first p fl law c (written x ps sc Aborted ns) (facts_of p x ps (Settles Abort ∷ Opens ∷ [])) fs (refl, (refl, tt)) (undone_folds x ps sc))
+        subst (λ w. FoldsDid fs (and_adds g w p x ops (turned g p el x ps sc t cs ds))) (sym e) (same_folds g first p fl law c (written x ps sc Aborted ns) (facts_of p x ps (Settles Abort ∷ Opens ∷ [])) fs (refl, (refl, tt)) (undone_folds x ps sc))
 
-    starts_at : (x : Txn) (ps : List ℕ) (sc : List Place) (ops : List Op) (fits below clash full : Bool) (codes cs : List ℕ) (s : Option TxnState) → state_of x (bares ns) ≡ s → is_below x fl ≡ below → clashes sc (bares ns) ≡ clash
+    starts_at : (x : Txn) (ps : List ℕ) (sc : List Place) (ops : List Op) (fits below clash full : Bool) (codes cs ds : List ℕ) (s : Option TxnState) → state_of x (bares ns) ≡ s → is_below x fl ≡ below → clashes sc (bares ns) ≡ clash
         → (first_code codes ≡ 0 → Clean g.effect (folded g.effect c (held_ops ns)) ops × AllOf (Lies g sc) ops)
-        → let t = opening fits below clash full (first_code codes) s in FoldsDid fs (and_adds g (t.code == 0) p x ops (turned g p el x ps sc t cs))
-    starts_at x ps sc ops false below clash full codes cs s e d k v = f
-    starts_at x ps sc ops true below clash full codes cs (Some s) e d k v = f
-    starts_at x ps sc ops true true clash full codes cs None e d k v = f
-    starts_at x ps sc ops true false true full codes cs None e d k v = f
-    starts_at x ps sc ops true false false true codes cs None e d k v = f
-    starts_at x ps sc ops true false false false codes cs None e d k v = starts_if (first_code codes == 0) x ps sc ops (first_code codes) cs refl e k d v
+        → let t = opening fits below clash full (first_code codes) s in FoldsDid fs (and_adds g (t.code == 0) p x ops (turned g p el x ps sc t cs ds))
+    starts_at x ps sc ops false below clash full codes cs ds s e d k v = f
+    starts_at x ps sc ops true below clash full codes cs ds (Some s) e d k v = f
+    starts_at x ps sc ops true true clash full codes cs ds None e d k v = f
+    starts_at x ps sc ops true false true full codes cs ds None e d k v = f
+    starts_at x ps sc ops true false false true codes cs ds None e d k v = f
+    starts_at x ps sc ops true false false false codes cs ds None e d k v = starts_if (first_code codes == 0) x ps sc ops (first_code codes) cs ds refl e k d v
 
     -- a rest that succeeds within a scope
     rest_good : (sc : List Place) (ops : List Op) → first_code (rest_codes g el sc ops) ≡ 0 → Clean g.effect (folded g.effect c (held_ops ns)) ops × AllOf (Lies g sc) ops
@@ -172,56 +172,56 @@ module _ {Config Op Subs : Type 0} (g : Ground Config Op Subs) (law : Lawful g) 
 
     starts_folds : (x : Txn) (ps : List ℕ) (sc : List Place) (ops : List Op) → FoldsDid fs (starts g p el x ps sc ops)
     starts_folds x ps sc ops =
-        starts_at x ps sc ops (admits p el.epoch x ps (not (all_in g sc)) sc) (is_below x fl) (clashes sc (bares ns)) (is_packed (bares ns)) (rest_codes g el sc ops) _ (state_of x (bares ns)) refl refl refl (rest_good sc ops)
+        starts_at x ps sc ops (admits p el.epoch x ps (not (all_in g sc)) sc) (is_below x fl) (clashes sc (bares ns)) (is_packed (bares ns)) (rest_codes g el sc ops) _ _ (state_of x (bares ns)) refl refl refl (rest_good sc ops)
 
     -- MOT
-    continues_if : (b : Bool) (x : Txn) (ops : List Op) (code : ℕ) (cs : List ℕ) → (code == 0) ≡ b → state_of x (bares ns) ≡ Some Started → (code ≡ 0 → Clean g.effect (folded g.effect c (held_ops ns)) ops × AllOf (Lies g (scope_at x ns)) ops)
-        → let t = failed (not b) code (keeps 0) in FoldsDid fs (and_adds g (t.code == 0) p x ops (turned g p el x [] [] t cs))
-    continues_if true x ops code cs e i v = let w = v (eqb-true code 0 e) in rest_folds g first p fl law x ops c ns fs i w.1 w.0 f
-    continues_if false x ops code cs e i v =
+    continues_if : (b : Bool) (x : Txn) (ops : List Op) (code : ℕ) (cs ds : List ℕ) → (code == 0) ≡ b → state_of x (bares ns) ≡ Some Started → (code ≡ 0 → Clean g.effect (folded g.effect c (held_ops ns)) ops × AllOf (Lies g (scope_at x ns)) ops)
+        → let t = failed (not b) code (keeps 0) in FoldsDid fs (and_adds g (t.code == 0) p x ops (turned g p el x [] [] t cs ds))
+    continues_if true x ops code cs ds e i v = let w = v (eqb-true code 0 e) in rest_folds g first p fl law x ops c ns fs i w.1 w.0 f
+    continues_if false x ops code cs ds e i v =
         let t = failed true code (keeps 0) in
-        subst (λ w. FoldsDid fs (and_adds g w p x ops (turned g p el x [] [] t cs))) (sym e) (same_folds g first p fl law c (written x [] [] Aborted ns) (facts_of p x [] (Settles Abort ∷ [])) fs (refl, tt) (undone_folds x [] []))
+        subst (λ w. FoldsDid fs (and_adds g w p x ops (turned g p el x [] [] t cs ds))) (sym e) (same_folds g first p fl law c (written x [] [] Aborted ns) (facts_of p x [] (Settles Abort ∷ [])) fs (refl, tt) (undone_folds x [] []))
 
-    continues_at : (x : Txn) (ops : List Op) (codes cs : List ℕ) (s : Option TxnState) → state_of x (bares ns) ≡ s → (first_code codes ≡ 0 → Clean g.effect (folded g.effect c (held_ops ns)) ops × AllOf (Lies g (scope_at x ns)) ops)
-        → let t = adding (first_code codes) s in FoldsDid fs (and_adds g (t.code == 0) p x ops (turned g p el x [] [] t cs))
-    continues_at x ops codes cs None e v = f
-    continues_at x ops codes cs (Some Started) e v = continues_if (first_code codes == 0) x ops (first_code codes) cs refl e v
-    continues_at x ops codes cs (Some Prepared) e v = f
-    continues_at x ops codes cs (Some Completed) e v = f
-    continues_at x ops codes cs (Some Aborted) e v = f
+    continues_at : (x : Txn) (ops : List Op) (codes cs ds : List ℕ) (s : Option TxnState) → state_of x (bares ns) ≡ s → (first_code codes ≡ 0 → Clean g.effect (folded g.effect c (held_ops ns)) ops × AllOf (Lies g (scope_at x ns)) ops)
+        → let t = adding (first_code codes) s in FoldsDid fs (and_adds g (t.code == 0) p x ops (turned g p el x [] [] t cs ds))
+    continues_at x ops codes cs ds None e v = f
+    continues_at x ops codes cs ds (Some Started) e v = continues_if (first_code codes == 0) x ops (first_code codes) cs ds refl e v
+    continues_at x ops codes cs ds (Some Prepared) e v = f
+    continues_at x ops codes cs ds (Some Completed) e v = f
+    continues_at x ops codes cs ds (Some Aborted) e v = f
 
     continues_folds : (x : Txn) (ops : List Op) → FoldsDid fs (continues g p el x ops)
-    continues_folds x ops = continues_at x ops (rest_codes g el (scope_at x ns) ops) _ (state_of x (bares ns)) refl (rest_good (scope_at x ns) ops)
+    continues_folds x ops = continues_at x ops (rest_codes g el (scope_at x ns) ops) _ _ (state_of x (bares ns)) refl (rest_good (scope_at x ns) ops)
 
     -- EOT with COMMIT
-    prepares_at : (x : Txn) (cs : List ℕ) (s : Option TxnState) → state_of x (bares ns) ≡ s → FoldsDid fs (turned g p el x [] [] (preparing s) cs)
-    prepares_at x cs None e = f
-    prepares_at x cs (Some Started) e =
+    prepares_at : (x : Txn) (cs ds : List ℕ) (s : Option TxnState) → state_of x (bares ns) ≡ s → FoldsDid fs (turned g p el x [] [] (preparing s) cs ds)
+    prepares_at x cs ds None e = f
+    prepares_at x cs ds (Some Started) e =
         same_folds g first p fl law c (written x [] [] Prepared ns) (facts_of p x [] (Prepares ∷ [])) fs (refl, tt) (held_folds g first p fl law x [] [] Prepared c ns fs refl (goes_from Prepared Started (state_of x (bares ns)) e refl) (λ n. not_none _ Started (state_of x (bares ns)) e n) (live_at fl x ns Started refl e f.live) f)
-    prepares_at x cs (Some Prepared) e = f
-    prepares_at x cs (Some Completed) e = f
-    prepares_at x cs (Some Aborted) e = f
+    prepares_at x cs ds (Some Prepared) e = f
+    prepares_at x cs ds (Some Completed) e = f
+    prepares_at x cs ds (Some Aborted) e = f
 
     -- EOT with TRCOMP
-    completes_at : (x : Txn) (cs : List ℕ) (s : Option TxnState) → state_of x (bares ns) ≡ s → let t = settling Complete s in FoldsDid fs (and_completes g (is_completed t.new) el x (turned g p el x [] [] t cs))
-    completes_at x cs None e = f
-    completes_at x cs (Some Started) e = f
-    completes_at x cs (Some Prepared) e = complete_folds g first p fl law x [] [] c ns fs e f
-    completes_at x cs (Some Completed) e = f
-    completes_at x cs (Some Aborted) e = f
+    completes_at : (x : Txn) (cs ds : List ℕ) (s : Option TxnState) → state_of x (bares ns) ≡ s → let t = settling Complete s in FoldsDid fs (and_completes g (is_completed t.new) el x (turned g p el x [] [] t cs ds))
+    completes_at x cs ds None e = f
+    completes_at x cs ds (Some Started) e = f
+    completes_at x cs ds (Some Prepared) e = complete_folds g first p fl law x [] [] c ns fs e f
+    completes_at x cs ds (Some Completed) e = f
+    completes_at x cs ds (Some Aborted) e = f
 
     -- ABT
     aborted : (x : Txn) → Folds g first p fl c (written x [] [] Aborted ns) (of_protocol (facts_of p x [] (Settles Abort ∷ [])) ++ fs)
     aborted x = same_folds g first p fl law c (written x [] [] Aborted ns) (facts_of p x [] (Settles Abort ∷ [])) fs (refl, tt) (undone_folds x [] [])
 
-    aborts_at : (x : Txn) (named full : Bool) (cs : List ℕ) (s : Option TxnState) → FoldsDid fs (turned g p el x [] [] (aborting named full s) cs)
-    aborts_at x false full cs None = f
-    aborts_at x true true cs None = f
-    aborts_at x true false cs None = aborted x
-    aborts_at x named full cs (Some Started) = aborted x
-    aborts_at x named full cs (Some Prepared) = aborted x
-    aborts_at x named full cs (Some Completed) = f
-    aborts_at x named full cs (Some Aborted) = f
+    aborts_at : (x : Txn) (named full : Bool) (cs ds : List ℕ) (s : Option TxnState) → FoldsDid fs (turned g p el x [] [] (aborting named full s) cs ds)
+    aborts_at x false full cs ds None = f
+    aborts_at x true true cs ds None = f
+    aborts_at x true false cs ds None = aborted x
+    aborts_at x named full cs ds (Some Started) = aborted x
+    aborts_at x named full cs ds (Some Prepared) = aborted x
+    aborts_at x named full cs ds (Some Completed) = f
+    aborts_at x named full cs ds (Some Aborted) = f
 
     -- a plain change
     changes_folds : (m : Configuring Op) (mode : Mode) → any_taken (bares ns) (places g m.ops) ≡ false → FoldsDid fs (changes g p el m mode)
@@ -242,9 +242,9 @@ module _ {Config Op Subs : Type 0} (g : Ground Config Op Subs) (law : Lawful g) 
     acts_folds m mode (Claim w) = f
     acts_folds m mode (Sot x ps sc) = starts_folds x ps sc m.ops
     acts_folds m mode (Mot x i) = continues_folds x m.ops
-    acts_folds m mode (Eot x) = prepares_at x ((preparing (state_of x (bares ns))).code ∷ (preparing (state_of x (bares ns))).code ∷ []) (state_of x (bares ns)) refl
-    acts_folds m mode (Trcomp x) = completes_at x ((settling Complete (state_of x (bares ns))).code ∷ []) (state_of x (bares ns)) refl
-    acts_folds m mode (Abt x) = aborts_at x (is_name x && not (is_below x fl)) (is_full (bares ns)) ((aborting (is_name x && not (is_below x fl)) (is_full (bares ns)) (state_of x (bares ns))).code ∷ []) (state_of x (bares ns))
+    acts_folds m mode (Eot x) = let code = (preparing (state_of x (bares ns))).code in prepares_at x (code ∷ code ∷ []) (code ∷ code ∷ []) (state_of x (bares ns)) refl
+    acts_folds m mode (Trcomp x) = let code = (settling Complete (state_of x (bares ns))).code in completes_at x (code ∷ []) (code ∷ []) (state_of x (bares ns)) refl
+    acts_folds m mode (Abt x) = let code = (aborting (is_name x && not (is_below x fl)) (is_full (bares ns)) (state_of x (bares ns))).code in aborts_at x (is_name x && not (is_below x fl)) (is_full (bares ns)) (code ∷ []) (code ∷ []) (state_of x (bares ns))
     acts_folds m mode (Floor y) = floors_folds m y (floor_code el.epoch fl y (bares ns) == 0) refl
     acts_folds m mode Malformed = f
     acts_folds m mode Plain = plain_folds_did m mode

@@ -184,7 +184,7 @@ module _ {Config Op Subs M P C : Type 0} (g : Ground Config Op Subs) (ms : Maste
     up_at v w p k m l = subst (λ o. Likes (to_master g ms v p k m (v.masters k)) (steps.to_master w p k (view m) o)) (l.like.masters k) (up_like v w p k m (v.masters k) l refl)
 
     no_circumstance : Circumstance
-    no_circumstance = record { unheard = true; misfit = 0; quiet = true; touches = []; strange = false; rest = 0; plain = 0; shape = 0; others = [] }
+    no_circumstance = record { unheard = true; misfit = 0; quiet = true; touches = []; strange = false; rest = 0; shown = 0; plain = 0; shape = 0; others = [] }
 
     downs : (v : W) (w : steps.World) (p k : ℕ) (m : Message Op) (t : said.Message) → AllGood v.masters → (c : Circumstance) × Like (with_step g ms v p (step g p (v.at p) (Arrived k (sender g ms v k) m))) (steps.delivered w c p k t)
         → (c : Circumstance) × Likes (with_step g ms v p (step g p (v.at p) (Arrived k (sender g ms v k) m))) (steps.delivered w c p k t)

@@ -85,13 +85,13 @@ module _ {Config Op Subs : Type 0} (g : Ground Config Op Subs) (p : ℕ) where
   starts_owned el x ps sc ops fits below clash full codes =
       let s = state_of x (bares el.records) in
       let t = opening fits below clash full (first_code codes) s in
-      adds (t.code == 0) x ops (turned g p el x ps sc t (checked (opening fits below clash full 0 s).code codes (length ops))) (events_owned Op p x ps t.events)
+      adds (t.code == 0) x ops (turned g p el x ps sc t _ _) (events_owned Op p x ps t.events)
 
   continues_owned : (el : Element Config Op Subs) (x : Txn) (ops : List Op) (codes : List ℕ) → Owned p (continues_by g p el x ops codes).facts
   continues_owned el x ops codes =
       let s = state_of x (bares el.records) in
       let t = adding (first_code codes) s in
-      adds (t.code == 0) x ops (turned g p el x [] [] t (checked (adding 0 s).code codes (length ops))) (events_owned Op p x [] t.events)
+      adds (t.code == 0) x ops (turned g p el x [] [] t _ _) (events_owned Op p x [] t.events)
 
   acts_owned : (el : Element Config Op Subs) (m : Configuring Op) (mode : Mode) (b : Body) → Owned p (acts g p el m mode b).facts
   acts_owned el m mode (Claim w) = tt

@@ -12,7 +12,7 @@ use Rattle.fc_protocol.specs.Messages.{Stamp, Body, Claim, Sot, Mot, Eot, Trcomp
 -- A message of the protocol, spelled as plainly as can be
 
 abbrev pub spelled_config : {Op : Type 0} → Stamp → Body → Message Op
-spelled_config m b = Configure (record { stamp = m; ack = 3; mode = Some AllOrNone; lost = false; astray = false; body = b; shape = 16; ops = []; props = false; more = 0 })
+spelled_config m b = Configure (record { stamp = m; ack = 3; mode = Some AllOrNone; lost = false; astray = false; body = b; shape = 16; ops = []; props = false; more = 0; bare = false })
 
 abbrev pub spelled_body : {Op : Type 0} → Stamp → Body → Message Op
 spelled_body m (Claim w) = spelled_config m (Claim w)
