@@ -103,110 +103,146 @@ total_less f g (n ∷ ps) p o h a l =
     turned : (n p : ℕ) → (p == n) ≡ false → (n == p) ≡ false
     turned n p e = ⊎_elim (λ t. let z : true ≡ false = sym (eq-eqb p n (sym (eqb-true n p t))) ∙ e in cc) (λ t. t) (both (n == p))
 
-module _ (w : World) (k : ℕ) (m : Master) (ps : List ℕ) (changes : ℕ → ℕ) (scopes : ℕ → Scope) (ground : Ground w k m ps changes scopes) (one : Once ps) (cs : ℕ → Circumstance) (smooth : (i : ℕ) → Smooth (cs i)) where
+module _ (w : World) (k : ℕ) (m : Master) (ps : List ℕ) (changes : ℕ → ℕ) (scopes : ℕ → Scope) where
+  -- a message of p arrives
+  pub by_phase : (v : World) (before : List Sent) (s : Sent) (rest : List Sent) (ph : ℕ → Phase) (i : ℕ) (c : Circumstance) → Arrives w k m ps changes scopes v i c before s rest ph → (p : ℕ) → among p ps ≡ true → (h : Phase) → ph p ≡ h → flies h ≡ true → s ≡ sent p k (message_of w k m ps changes scopes p h)
+      → Next w k m ps changes scopes (happens v (Deliver i c)) (before ++ s ∷ []) s ph
+  by_phase v before s rest ph i c z p a (Asking d) e f x = asked w k m ps changes scopes v i c before s rest ph z p a d e x
+  by_phase v before s rest ph i c z p a (Told d) e f x = told w k m ps changes scopes v i c before s rest ph z p a d e x
+  by_phase v before s rest ph i c z p a Ready e f x = cc
+  by_phase v before s rest ph i c z p a Ending e f x = ended w k m ps changes scopes v i c before s rest ph z p a e x
+  by_phase v before s rest ph i c z p a Ended e f x = settles w k m ps changes scopes v i c before s rest ph z p a e x
+  by_phase v before s rest ph i c z p a Done e f x = cc
+
+  -- the first message of the queue has this number
+  pub number_of : (v : World) (before : List Sent) (s : Sent) (rest : List Sent) (ph : ℕ → Phase) (i : ℕ) → Going w k m ps changes scopes v before (s ∷ rest) ph → i ≡ length before + 1 → numbered v.sent i ≡ Some s
+  number_of v before s rest ph i g e = number_at v.sent (length before) i e ∙ ap (λ ss. slice_get ss (length before)) g.sent ∙ get_at before s rest (length before) refl
+
+-- The round of anything whose world is seen, as of a world itself: the message of a number arrives there, and what is kept beside the round stays
+module _ (w : World) (k : ℕ) (m : Master) (ps : List ℕ) (changes : ℕ → ℕ) (scopes : ℕ → Scope) (ground : Ground w k m ps changes scopes) (one : Once ps) {S : Type 0} (seen : S → World) (next : S → ℕ → S) (Kept : S → List Sent → List Sent → Type 0) where
+  -- a notice changes nothing
+  abbrev pub Passes : Type 0
+  Passes = (v : S) (before : List Sent) (s : Sent) (rest : List Sent) (ph : ℕ → Phase) (i : ℕ) → Going w k m ps changes scopes (seen v) before (s ∷ rest) ph → Kept v before (s ∷ rest) → i ≡ length before + 1 → is_notice s.message ≡ true
+      → (seen (next v i) ≡ seen v) × Kept (next v i) (before ++ s ∷ []) rest
+
+  -- a message of a participant is a step of the round
+  abbrev pub Steps : Type 0
+  Steps = (v : S) (before : List Sent) (s : Sent) (rest : List Sent) (ph : ℕ → Phase) (i : ℕ) → Going w k m ps changes scopes (seen v) before (s ∷ rest) ph → Kept v before (s ∷ rest) → i ≡ length before + 1
+      → (among s.element ps ≡ true) × (flies (ph s.element) ≡ true) × (s ≡ sent s.element k (message_of w k m ps changes scopes s.element (ph s.element)))
+      → (n : Next w k m ps changes scopes (seen (next v i)) (before ++ s ∷ []) s ph) × Kept (next v i) (before ++ s ∷ []) n.after
+
+  -- so many messages have arrived
+  abbrev pub arrived : ℕ → ℕ → S → S
+  arrived i zero v = v
+  arrived i (suc n) v = arrived (i + 1) n (next v i)
+
   abbrev pub left_at : (ℕ → Phase) → ℕ → ℕ
   left_at ph q = left w k m ps changes scopes q (ph q)
 
   -- the world once no message is left
-  pub record Over (v : World) (before : List Sent) (ph : ℕ → Phase) (i : ℕ) : Type 0 where
+  pub record Over (v : S) (before : List Sent) (ph : ℕ → Phase) (i : ℕ) : Type 0 where
     pub since : List Sent
     pub phase : ℕ → Phase
-    pub going : Going w k m ps changes scopes (arrive cs i (length since) v) (before ++ since) [] phase
+    pub going : Going w k m ps changes scopes (seen (arrived i (length since) v)) (before ++ since) [] phase
     pub count : spoken_count since + total (left_at phase) ps ≡ total (left_at ph) ps
 
-  length_one : (before : List Sent) (s : Sent) → length (before ++ s ∷ []) ≡ length before + 1
-  length_one [] s = refl
-  length_one (b ∷ before) s = let e : length (before ++ s ∷ []) ≡ length before + 1 = length_one before s in omega arith
+  module _ (passes : Passes) (steps : Steps) where
+    length_one : (before : List Sent) (s : Sent) → length (before ++ s ∷ []) ≡ length before + 1
+    length_one [] s = refl
+    length_one (b ∷ before) s = let e : length (before ++ s ∷ []) ≡ length before + 1 = length_one before s in omega arith
 
-  more_length : (n i : ℕ) (v : World) → arrive cs i (n + 1) v ≡ arrive cs (i + 1) n (happens v (Deliver i (cs i)))
-  more_length n i v = let e : n + 1 ≡ suc n = omega arith in ap (λ o. arrive cs i o v) e
+    more_length : (n i : ℕ) (v : S) → arrived i (n + 1) v ≡ arrived (i + 1) n (next v i)
+    more_length n i v = let e : n + 1 ≡ suc n = omega arith in ap (λ o. arrived i o v) e
 
-  -- one more message has arrived
-  over_more : (v : World) (before : List Sent) (s : Sent) (ph h : ℕ → Phase) (i : ℕ) → cond (is_notice s.message) 0 1 + total (left_at h) ps ≡ total (left_at ph) ps → Over (happens v (Deliver i (cs i))) (before ++ s ∷ []) h (i + 1) → Over v before ph i
-  over_more v before s ph h i e o = record {
-    since = s ∷ o.since;
-    phase = o.phase;
-    going = subst (λ z. Going w k m ps changes scopes z (before ++ s ∷ o.since) [] o.phase) (sym (let l : length (s ∷ o.since) ≡ length o.since + 1 = omega arith in ap (λ n. arrive cs i n v) l ∙ more_length (length o.since) i v))
-        (subst (λ z. Going w k m ps changes scopes (arrive cs (i + 1) (length o.since) (happens v (Deliver i (cs i)))) z [] o.phase) (append_assoc before (s ∷ []) o.since) o.going);
-    count = let c : spoken_count o.since + total (left_at o.phase) ps ≡ total (left_at h) ps = o.count in omega arith;
-  }
+    -- one more message has arrived
+    over_more : (v : S) (before : List Sent) (s : Sent) (ph h : ℕ → Phase) (i : ℕ) → cond (is_notice s.message) 0 1 + total (left_at h) ps ≡ total (left_at ph) ps → Over (next v i) (before ++ s ∷ []) h (i + 1) → Over v before ph i
+    over_more v before s ph h i e o = record {
+      since = s ∷ o.since;
+      phase = o.phase;
+      going = subst (λ z. Going w k m ps changes scopes z (before ++ s ∷ o.since) [] o.phase) (sym (let l : length (s ∷ o.since) ≡ length o.since + 1 = omega arith in ap (λ n. seen (arrived i n v)) l ∙ ap seen (more_length (length o.since) i v)))
+          (subst (λ z. Going w k m ps changes scopes (seen (arrived (i + 1) (length o.since) (next v i))) z [] o.phase) (append_assoc before (s ∷ []) o.since) o.going);
+      count = let c : spoken_count o.since + total (left_at o.phase) ps ≡ total (left_at h) ps = o.count in omega arith;
+    }
 
-  abbrev Walks : ℕ → Type 0
-  Walks n = (v : World) (before after : List Sent) (ph : ℕ → Phase) (i : ℕ) → Going w k m ps changes scopes v before after ph → i ≡ length before + 1 → total (left_at ph) ps ≤ n → Over v before ph i
+    notice_count : (q : ℕ) (s : Sent) (rest : List Sent) → is_notice s.message ≡ true → busy q (s ∷ rest) ≡ busy q rest
+    notice_count q s rest e = ap (λ b. cond (q == s.element && not b) 1 0 + busy q rest) e ∙ no_more (q == s.element) (busy q rest)
+      where
+        no_more : (b : Bool) (n : ℕ) → cond (b && false) 1 0 + n ≡ n
+        no_more true n = omega arith
+        no_more false n = omega arith
 
-  number_of : (v : World) (before : List Sent) (s : Sent) (rest : List Sent) (ph : ℕ → Phase) (i : ℕ) → Going w k m ps changes scopes v before (s ∷ rest) ph → i ≡ length before + 1 → numbered v.sent i ≡ Some s
-  number_of v before s rest ph i g e = number_at v.sent (length before) i e ∙ ap (λ ss. slice_get ss (length before)) g.sent ∙ get_at before s rest (length before) refl
+    -- a notice has arrived, and nothing has changed
+    passed : (v : World) (before : List Sent) (s : Sent) (rest : List Sent) (ph : ℕ → Phase) → Going w k m ps changes scopes v before (s ∷ rest) ph → is_notice s.message ≡ true → Going w k m ps changes scopes v (before ++ s ∷ []) rest ph
+    passed v before s rest ph g e = record {
+      sent = g.sent ∙ sym (append_assoc before (s ∷ []) rest);
+      network = g.network;
+      calm = g.calm;
+      now = g.now;
+      runs = g.runs;
+      epoch = g.epoch;
+      elements = g.elements;
+      deposed = g.deposed;
+      job = g.job;
+      jobs = g.jobs;
+      txn = g.txn;
+      mine = g.mine;
+      parts = g.parts;
+      changed = g.changed;
+      others = g.others;
+      peers = g.peers;
+      job_in = g.job_in;
+      stand = g.stand;
+      mode = g.mode;
+      queue = record { each = λ t i. g.queue.each t (inr i); count = λ q a. sym (notice_count q s rest e) ∙ g.queue.count q a };
+    }
 
-  notice_count : (q : ℕ) (s : Sent) (rest : List Sent) → is_notice s.message ≡ true → busy q (s ∷ rest) ≡ busy q rest
-  notice_count q s rest e = ap (λ b. cond (q == s.element && not b) 1 0 + busy q rest) e ∙ no_more (q == s.element) (busy q rest)
-    where
-      no_more : (b : Bool) (n : ℕ) → cond (b && false) 1 0 + n ≡ n
-      no_more true n = omega arith
-      no_more false n = omega arith
+    -- with so many deliveries left, whatever notices stand between
+    abbrev Walks : ℕ → Type 0
+    Walks n = (v : S) (before after : List Sent) (ph : ℕ → Phase) (i : ℕ) → Going w k m ps changes scopes (seen v) before after ph → Kept v before after → i ≡ length before + 1 → total (left_at ph) ps ≤ n → Over v before ph i
 
-  -- a notice has arrived, and nothing has changed
-  passed : (v : World) (before : List Sent) (s : Sent) (rest : List Sent) (ph : ℕ → Phase) → Going w k m ps changes scopes v before (s ∷ rest) ph → is_notice s.message ≡ true → Going w k m ps changes scopes v (before ++ s ∷ []) rest ph
-  passed v before s rest ph g e = record {
-    sent = g.sent ∙ sym (append_assoc before (s ∷ []) rest);
-    network = g.network;
-    calm = g.calm;
-    now = g.now;
-    runs = g.runs;
-    epoch = g.epoch;
-    elements = g.elements;
-    deposed = g.deposed;
-    job = g.job;
-    jobs = g.jobs;
-    txn = g.txn;
-    mine = g.mine;
-    parts = g.parts;
-    changed = g.changed;
-    others = g.others;
-    peers = g.peers;
-    job_in = g.job_in;
-    stand = g.stand;
-    mode = g.mode;
-    queue = record { each = λ t i. g.queue.each t (inr i); count = λ q a. sym (notice_count q s rest e) ∙ g.queue.count q a };
-  }
+    abbrev Below : ℕ → Type 0
+    Below n = (o : ℕ) → o < n → Walks o
 
-  -- a message of p arrives
-  by_phase : (v : World) (before : List Sent) (s : Sent) (rest : List Sent) (ph : ℕ → Phase) (i : ℕ) → Arrives w k m ps changes scopes v i (cs i) before s rest ph → (p : ℕ) → among p ps ≡ true → (h : Phase) → ph p ≡ h → flies h ≡ true → s ≡ sent p k (message_of w k m ps changes scopes p h)
-      → Next w k m ps changes scopes (happens v (Deliver i (cs i))) (before ++ s ∷ []) s ph
-  by_phase v before s rest ph i z p a (Asking d) e f x = asked w k m ps changes scopes v i (cs i) before s rest ph z p a d e x
-  by_phase v before s rest ph i z p a (Told d) e f x = told w k m ps changes scopes v i (cs i) before s rest ph z p a d e x
-  by_phase v before s rest ph i z p a Ready e f x = cc
-  by_phase v before s rest ph i z p a Ending e f x = ended w k m ps changes scopes v i (cs i) before s rest ph z p a e x
-  by_phase v before s rest ph i z p a Ended e f x = settles w k m ps changes scopes v i (cs i) before s rest ph z p a e x
-  by_phase v before s rest ph i z p a Done e f x = cc
+    walk_on : (n : ℕ) → Below n → (after : List Sent) (v : S) (before : List Sent) (ph : ℕ → Phase) (i : ℕ) → Going w k m ps changes scopes (seen v) before after ph → Kept v before after → i ≡ length before + 1 → total (left_at ph) ps ≤ n → Over v before ph i
+    walk_on n r [] v before ph i g z e l = record { since = []; phase = ph; going = subst (λ b. Going w k m ps changes scopes (seen v) b [] ph) (sym (none_after before)) g; count = omega arith }
+    walk_on n r (s ∷ rest) v before ph i g z e l =
+        ⊎_elim (λ u.
+        let t = passes v before s rest ph i g z e u in
+        over_more v before s ph ph i (ap (λ b. cond b 0 1 + total (left_at ph) ps) u ∙ no_count (total (left_at ph) ps))
+        (walk_on n r rest (next v i) (before ++ s ∷ []) ph (i + 1) (subst (λ b. Going w k m ps changes scopes b (before ++ s ∷ []) rest ph) (sym t.0) (passed (seen v) before s rest ph g u)) t.1 (let c : length (before ++ s ∷ []) ≡ length before + 1 = length_one before s in omega arith) l))
+        (λ u.
+        let y = steps v before s rest ph i g z e u in
+        let t = y.0 in
+        let less : total (left_at t.phase) ps + 1 ≡ total (left_at ph) ps = total_less (left_at ph) (left_at t.phase) ps t.who one t.rest t.part t.less in
+        over_more v before s ph t.phase i (ap (λ b. cond b 0 1 + total (left_at t.phase) ps) t.spoken ∙ (omega arith))
+        (r (total (left_at t.phase) ps) (omega arith) (next v i) (before ++ s ∷ []) t.after t.phase (i + 1) t.going y.1 (let c : length (before ++ s ∷ []) ≡ length before + 1 = length_one before s in omega arith) (omega arith)))
+        (g.queue.each s (inl refl))
+      where
+        no_count : (n : ℕ) → 0 + n ≡ n
+        no_count n = omega arith
 
-  next_of : (v : World) (before : List Sent) (s : Sent) (rest : List Sent) (ph : ℕ → Phase) (i : ℕ) → Going w k m ps changes scopes v before (s ∷ rest) ph → i ≡ length before + 1 → (among s.element ps ≡ true) × (flies (ph s.element) ≡ true) × (s ≡ sent s.element k (message_of w k m ps changes scopes s.element (ph s.element)))
-      → Next w k m ps changes scopes (happens v (Deliver i (cs i))) (before ++ s ∷ []) s ph
-  next_of v before s rest ph i g e u = by_phase v before s rest ph i (record { ground = ground; going = g; smooth = smooth i; number = number_of v before s rest ph i g e }) s.element u.0 (ph s.element) refl u.1 u.2
+    below : (n : ℕ) → Below n
+    below zero o l = absurd (omega arith)
+    below (suc n) o l = λ v before after ph i g z e t. walk_on o (λ q u. below n q (omega arith)) after v before ph i g z e t
 
-  -- with so many deliveries left, whatever notices stand between
-  abbrev Below : ℕ → Type 0
-  Below n = (o : ℕ) → o < n → Walks o
+    pub walks : (v : S) (before after : List Sent) (ph : ℕ → Phase) (i : ℕ) → Going w k m ps changes scopes (seen v) before after ph → Kept v before after → i ≡ length before + 1 → Over v before ph i
+    walks v before after ph i g z e = below (suc (total (left_at ph) ps)) (total (left_at ph) ps) (omega arith) v before after ph i g z e (omega arith)
 
-  walk_on : (n : ℕ) → Below n → (after : List Sent) (v : World) (before : List Sent) (ph : ℕ → Phase) (i : ℕ) → Going w k m ps changes scopes v before after ph → i ≡ length before + 1 → total (left_at ph) ps ≤ n → Over v before ph i
-  walk_on n r [] v before ph i g e l = record { since = []; phase = ph; going = subst (λ z. Going w k m ps changes scopes v z [] ph) (sym (none_after before)) g; count = omega arith }
-  walk_on n r (s ∷ rest) v before ph i g e l =
-      ⊎_elim (λ u.
-      let same = notice_arrives v (cs i) i s g.calm (number_of v before s rest ph i g e) u in
-      over_more v before s ph ph i (ap (λ b. cond b 0 1 + total (left_at ph) ps) u ∙ no_count (total (left_at ph) ps)) (subst (λ z. Over z (before ++ s ∷ []) ph (i + 1)) (sym same)
-      (walk_on n r rest v (before ++ s ∷ []) ph (i + 1) (passed v before s rest ph g u) (let c : length (before ++ s ∷ []) ≡ length before + 1 = length_one before s in omega arith) l)))
-      (λ u.
-      let t = next_of v before s rest ph i g e u in
-      let less : total (left_at t.phase) ps + 1 ≡ total (left_at ph) ps = total_less (left_at ph) (left_at t.phase) ps t.who one t.rest t.part t.less in
-      over_more v before s ph t.phase i (ap (λ b. cond b 0 1 + total (left_at t.phase) ps) t.spoken ∙ (omega arith))
-      (r (total (left_at t.phase) ps) (omega arith) (happens v (Deliver i (cs i))) (before ++ s ∷ []) t.after t.phase (i + 1) t.going (let c : length (before ++ s ∷ []) ≡ length before + 1 = length_one before s in omega arith) (omega arith)))
-      (g.queue.each s (inl refl))
-    where
-      no_count : (n : ℕ) → 0 + n ≡ n
-      no_count n = omega arith
+-- of a world, where all is smooth
+module _ (w : World) (k : ℕ) (m : Master) (ps : List ℕ) (changes : ℕ → ℕ) (scopes : ℕ → Scope) (ground : Ground w k m ps changes scopes) (one : Once ps) (cs : ℕ → Circumstance) (smooth : (i : ℕ) → Smooth (cs i)) where
+  abbrev pub next_world : World → ℕ → World
+  next_world v i = happens v (Deliver i (cs i))
 
-  below : (n : ℕ) → Below n
-  below zero o l = absurd (omega arith)
-  below (suc n) o l = λ v before after ph i g e t. walk_on o (λ q u. below n q (omega arith)) after v before ph i g e t
+  abbrev pub no_more : World → List Sent → List Sent → Type 0
+  no_more v before after = Unit {0}
 
-  pub walks : (v : World) (before after : List Sent) (ph : ℕ → Phase) (i : ℕ) → Going w k m ps changes scopes v before after ph → i ≡ length before + 1 → Over v before ph i
-  walks v before after ph i g e = below (suc (total (left_at ph) ps)) (total (left_at ph) ps) (omega arith) v before after ph i g e (omega arith)
+  pub world_passes : Passes w k m ps changes scopes ground one (λ (v : World). v) next_world no_more
+  world_passes v before s rest ph i g z e u = (notice_arrives v (cs i) i s g.calm (number_of w k m ps changes scopes v before s rest ph i g e) u, tt)
+
+  pub world_steps : Steps w k m ps changes scopes ground one (λ (v : World). v) next_world no_more
+  world_steps v before s rest ph i g z e u =
+      (by_phase w k m ps changes scopes v before s rest ph i (cs i) (record { ground = ground; going = g; smooth = smooth i; number = number_of w k m ps changes scopes v before s rest ph i g e }) s.element u.0 (ph s.element) refl u.1 u.2, tt)
+
+  pub arrived_is : (n i : ℕ) (v : World) → arrived w k m ps changes scopes ground one (λ (u : World). u) next_world no_more i n v ≡ arrive cs i n v
+  arrived_is zero i v = refl
+  arrived_is (suc n) i v = arrived_is n (i + 1) (next_world v i)

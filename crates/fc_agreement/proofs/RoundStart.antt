@@ -23,7 +23,7 @@ use Rattle.fc_agreement.proofs.Facts.{past, RequestFine, Born, MasterFine, LifeF
 use Rattle.fc_protocol.proofs.Order.{under_of, not_under}
 use Rattle.fc_agreement.proofs.Numbers.{Numbered, LifeNumbered, at_start, parts_of, goes, ids, settled_law}
 use Rattle.fc_agreement.proofs.Round.{Phase, Asking, Told, Ready, Ending, Ended, Done, flies, votes, is_ready, ends, left, Ground, JobIn, ElIn, Going}
-use Rattle.fc_agreement.proofs.RoundRuns.{Once, total, Over, walks}
+use Rattle.fc_agreement.proofs.RoundRuns.{Once, total, Over, Passes, Steps, arrived, walks, next_world, no_more, world_passes, world_steps, arrived_is}
 use Rattle.fc_agreement.proofs.RoundSpeaks.{Duty, Turned, spoken_going, config_stamp, config_waits, config_last}
 use Rattle.fc_agreement.proofs.Taking.{at_count}
 
@@ -225,7 +225,7 @@ module _ (net : Network) (steps : List Step) (k : ℕ) (m : Master) (q0 : ℕ) (
     le_is : (n o : ℕ) → n ≤ o → nat_le n o ≡ true
     le_is n o l = grind arith
 
-    ground : Ground w k m ps changes scopes
+    pub ground : Ground w k m ps changes scopes
     ground = record {
       set = calm.set;
       still = calm.still;
@@ -324,14 +324,16 @@ module _ (net : Network) (steps : List Step) (k : ℕ) (m : Master) (q0 : ℕ) (
         spoken_going w k m ps changes scopes base n job [] (λ _. Asking 0) w.sent ground turned (ap (λ ss. ss ++ (sends_all k m.elements n).says) (none_after w.sent)) refl
         (subst CalmWorld begins_is (happens_calm w (Begin k ps changes scopes) (all_calm net steps)))
 
-    once : Once ps
+    pub once : Once ps
     once = rises_once 0 ps h.rising
 
-    module _ (cs : ℕ → Circumstance) (smooth : (i : ℕ) → Smooth (cs i)) where
-      over : Over w k m ps changes scopes ground once cs smooth (happens w (Begin k ps changes scopes)) w.sent (λ _. Asking 0) (length w.sent + 1)
+    -- the round of anything whose world is seen, which has begun it
+    module _ {S : Type 0} (seen : S → World) (next : S → ℕ → S) (Kept : S → List Sent → List Sent → Type 0) (passes : Passes w k m ps changes scopes ground once seen next Kept) (goes : Steps w k m ps changes scopes ground once seen next Kept) (first : S) (begun_is : seen first ≡ happens w (Begin k ps changes scopes))
+        (kept : (after : List Sent) → (seen first).sent ≡ w.sent ++ after → Kept first w.sent after) where
+      over : Over w k m ps changes scopes ground once seen next Kept first w.sent (λ _. Asking 0) (length w.sent + 1)
       over =
-          subst (λ v. Over w k m ps changes scopes ground once cs smooth v w.sent (λ _. Asking 0) (length w.sent + 1)) (sym begins_is)
-          (walks w k m ps changes scopes ground once cs smooth (speaks base k [] (sends_all k m.elements n)) w.sent ([] ++ (sends_all k m.elements n).says) (λ _. Asking 0) (length w.sent + 1) starts refl)
+          let g : Going w k m ps changes scopes (seen first) w.sent ([] ++ (sends_all k m.elements n).says) (λ _. Asking 0) = subst (λ v. Going w k m ps changes scopes v w.sent ([] ++ (sends_all k m.elements n).says) (λ _. Asking 0)) (sym (begun_is ∙ begins_is)) starts in
+          walks w k m ps changes scopes ground once seen next Kept passes goes first w.sent ([] ++ (sends_all k m.elements n).says) (λ _. Asking 0) (length w.sent + 1) g (kept ([] ++ (sends_all k m.elements n).says) g.sent) refl
 
       none_flies : (p : ℕ) → among p ps ≡ true → flies (over.phase p) ≡ false
       none_flies p a = still (flies (over.phase p)) (over.going.queue.count p a)
@@ -395,9 +397,9 @@ module _ (net : Network) (steps : List Step) (k : ℕ) (m : Master) (q0 : ℕ) (
       first_count (r ∷ rs) = let b : total (λ q. left w k m ps changes scopes q (Asking 0)) rs ≡ round_count changes rs = first_count rs in omega arith
 
       abbrev end : World
-      end = arrive cs (length w.sent + 1) (length over.since) (happens w (Begin k ps changes scopes))
+      end = seen (arrived w k m ps changes scopes ground once seen next Kept (length w.sent + 1) (length over.since) first)
 
-      pub round : (o : ℕ) × Completes w (arrive cs (length w.sent + 1) o (happens w (Begin k ps changes scopes))) k m ps changes o
+      pub round : (o : ℕ) × Completes w (seen (arrived w k m ps changes scopes ground once seen next Kept (length w.sent + 1) o first)) k m ps changes o
       round = (
         length over.since,
         record {
@@ -415,5 +417,12 @@ module _ (net : Network) (steps : List Step) (k : ℕ) (m : Master) (q0 : ℕ) (
         },
       )
 
+    -- of the world itself, where all is smooth
+    pub smooth_round : (cs : ℕ → Circumstance) → ((i : ℕ) → Smooth (cs i)) → (o : ℕ) × Completes w (arrive cs (length w.sent + 1) o (happens w (Begin k ps changes scopes))) k m ps changes o
+    smooth_round cs smooth =
+        let r = round (λ (v : World). v) (next_world w k m ps changes scopes ground once cs smooth) (no_more w k m ps changes scopes ground once cs smooth) (world_passes w k m ps changes scopes ground once cs smooth) (world_steps w k m ps changes scopes ground once cs smooth)
+            (happens w (Begin k ps changes scopes)) refl (λ after e. tt) in
+        (r.0, subst (λ v. Completes w v k m ps changes r.0) (arrived_is w k m ps changes scopes ground once cs smooth r.0 (length w.sent + 1) (happens w (Begin k ps changes scopes))) r.1)
+
 pub clean_round_law : (net : Network) (steps : List Step) → CleanRound (run steps (first_world net))
-clean_round_law net steps k m p ps changes scopes h cs s = round net steps k m p ps changes scopes h cs s
+clean_round_law net steps k m p ps changes scopes h cs s = smooth_round net steps k m p ps changes scopes h cs s
