@@ -65,5 +65,6 @@ plainest Op = record {
   parts = λ plan. plan.parts;
   counts = λ plan. plan.counts;
   scopes = λ plan. plan.scopes;
+  change = λ plan p i. [];
   epoch = λ m. m.epoch;
 }
