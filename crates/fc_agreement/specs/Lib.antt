@@ -1,0 +1,5 @@
+pub mod Core
+pub mod CoreLaws
+pub mod Agreement
+pub mod Runs
+pub mod CleanRound

@@ -1,0 +1,9 @@
+//! Tests of the layers of an element.
+#![tactic(auto)]
+
+#[cfg(test)]
+mod fence;
+#[cfg(test)]
+mod makers;
+#[cfg(test)]
+mod records;

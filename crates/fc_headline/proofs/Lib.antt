@@ -1,0 +1,15 @@
+pub mod Blocks
+pub mod Scopes
+pub mod Held
+pub mod Kept
+pub mod Folding
+pub mod Rests
+pub mod Folded
+pub mod Viewed
+pub mod Arriving
+pub mod Likes
+pub mod Owned
+pub mod Worlds
+pub mod Alone
+pub mod Forgetting
+pub mod Rounds

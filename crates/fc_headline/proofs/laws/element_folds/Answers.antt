@@ -1,0 +1,9 @@
+use Rattle.fc_headline.proofs.Alone.{element_keeps}
+use Rattle.fc_headline.proofs.Folded.{element_folds}
+use Rattle.fc_headline.proofs.laws.element_folds.Goals as goal
+
+pub returns-clause-folds : goal.returns-clause-folds
+returns-clause-folds c s p opening subs ce inputs = element_folds c.G.Grounds.basis c.G.Grounds.lawful p opening subs ce inputs
+
+pub returns-clause-keeps : goal.returns-clause-keeps
+returns-clause-keeps c s p opening subs ce inputs = element_keeps c.G.Grounds.basis c.G.Grounds.lawful p opening subs ce inputs

@@ -1,0 +1,5 @@
+pub mod Folds
+pub mod OneElement
+pub mod Headline
+pub mod PlainestMasters
+pub mod PlainestLaws

@@ -1,0 +1,10 @@
+//! The laws of the machine of an element and of the world, over any configuration whose operations at different instances commute, and any masters that do what the protocol says.
+#![tactic(auto)]
+
+mod basis;
+mod laws;
+mod pairs;
+
+pub use basis::Grounds;
+pub use laws::{element_folds, headline};
+pub use pairs::Pairs;
