@@ -2,10 +2,13 @@
 //! what it holds; the one over TCP is the trusted edge.
 #![tactic(auto)]
 
+mod arrivals;
 mod event;
 mod hub;
+mod link;
 mod listening;
 mod memory_hubs;
+mod patient;
 mod recording;
 mod tcp;
 #[cfg(test)]
@@ -14,4 +17,5 @@ mod tests;
 pub use event::{Act, HubEvent};
 pub use hub::Hub;
 pub use memory_hubs::{MemHub, SureHub};
+pub use patient::Patient;
 pub use tcp::TcpHub;

@@ -3,26 +3,27 @@ ghost use Rattle.std.specs.Prelude.{IfOk};
 ghost use Rattle.fc_hub.specs.Hubs.{IsEvent};
 
 use crate::HubEvent;
-use fc_base::{Memory, Octets, Text, Trouble};
+use crate::arrivals::{Missed, why_missed};
+use crate::link::{Found, finish, now, prepare, read_piece, send_all};
+use fc_base::{Memory, Text, Trouble};
 use std::alloc::Global;
 use std::io;
-use std::io::{ErrorKind, Read, Write};
 #[cfg(test)]
 use std::net::SocketAddr;
 use std::net::{Net, OpenListener, OpenStream, Shutdown, TcpListener};
 use std::time::{Clock, Duration};
 
-// How long a read waits before it tells the moment, in seconds.
-const READ_SECONDS: u64 = 1;
-// How long a write waits before the peer is given up, in seconds.
-const WRITE_SECONDS: u64 = 10;
+// How long after a moment the next one is told, in milliseconds.
+const MOMENT_MILLISECONDS: u64 = 1000;
 // How often it is looked for a new connection before the moment is told, and how long apart, in milliseconds: for a
 // second in all.
 const LOOKS: u32 = 100;
 
 const PAUSE_MILLISECONDS: u64 = 10;
-// The most bytes that one read takes.
-const PIECE: usize = 4096;
+// How many seconds a connection may be silent while another one waits.
+const SILENCES: u32 = 2;
+// How long there may be no descriptor for a connection, in milliseconds.
+const LACK_MILLISECONDS: u64 = 10_000;
 
 /// An address, and the connections to it.
 #[derive(Drop)]
@@ -35,9 +36,16 @@ pub struct Listening<R: Net> {
     listener: Option<R::Listener>,
     // the connection of the newest peer, while it stands
     stream: Option<R::Stream>,
-    // how many connections were accepted, which is the newest peer
+    // how many seconds it was silent since its last bytes
+    silent: u32,
+    // the connection that comes next, where it was taken before the newest peer had closed
+    next: Option<R::Stream>,
+    // since when there is no descriptor for a connection
+    lacking: Option<u64>,
+    // how many connections were told, which is the newest peer
     newest: u32,
     closed: u32,
+    // the moment that was told last
     latest: u64,
 }
 
@@ -57,6 +65,9 @@ impl<R: Net + Clock + Drop> Listening<R> {
             connections,
             listener: None,
             stream: None,
+            silent: 0,
+            next: None,
+            lacking: None,
             newest: 0,
             closed: 0,
             latest: 0,
@@ -72,7 +83,7 @@ impl<R: Net + Clock + Drop> Listening<R> {
         }
     }
 
-    /// The next event.
+    /// The next event. Before anything else it is the moment, where the last one was told a second ago.
     pub fn next(&mut self) -> Result<HubEvent, Trouble>
         ensures { IfOk result IsEvent }
     {
@@ -82,6 +93,9 @@ impl<R: Net + Clock + Drop> Listening<R> {
         }
         if self.closed >= self.connections {
             return Ok(HubEvent::Over);
+        }
+        if now(&self.rt)? >= self.latest.saturating_add(MOMENT_MILLISECONDS) {
+            return self.moment();
         }
         if self.stream.is_some() {
             self.read()
@@ -102,9 +116,7 @@ impl<R: Net + Clock + Drop> Listening<R> {
     fn moment(&mut self) -> Result<HubEvent, Trouble>
         ensures { IfOk result IsEvent }
     {
-        let now = self.rt.monotonic().map_err(failed)?;
-        let milliseconds = u64::try_from(now.as_millis()).unwrap_or(u64::MAX);
-        self.latest = self.latest.max(milliseconds);
+        self.latest = self.latest.max(now(&self.rt)?);
         Ok(HubEvent::Moment(self.latest))
     }
 
@@ -113,49 +125,92 @@ impl<R: Net + Clock + Drop> Listening<R> {
         ensures { IfOk result IsEvent }
     {
         for _ in 0..LOOKS {
-            if self.look()? {
-                self.newest = self.newest.saturating_add(1);
-                return Ok(HubEvent::Opened(self.newest));
+            self.look()?;
+            if self.next.is_some() {
+                return Ok(self.open());
             }
             self.rt.sleep(Duration::from_millis(PAUSE_MILLISECONDS));
         }
         self.moment()
     }
 
-    // Takes a connection that waits, if there is one.
-    fn look(&mut self) -> Result<bool, Trouble> {
+    // Begins with the connection that comes next.
+    fn open(&mut self) -> HubEvent
+        ensures { IsEvent result }
+    {
+        self.stream = self.next.take();
+        self.silent = 0;
+        self.newest = self.newest.saturating_add(1);
+        HubEvent::Opened(self.newest)
+    }
+
+    // Takes a connection that waits, if there is one and none was taken yet.
+    fn look(&mut self) -> Result<(), Trouble> {
+        if self.next.is_some() {
+            return Ok(());
+        }
         let Some(listener) = &self.listener else {
-            return Ok(false);
+            return Ok(());
         };
         match listener.accept() {
             Ok((stream, _)) => {
-                prepare(&stream).map_err(failed)?;
-                self.stream = Some(stream);
-                Ok(true)
+                self.lacking = None;
+                if prepare(&stream).is_ok() {
+                    self.next = Some(stream);
+                }
+                Ok(())
             }
-            Err(error) if is_wait(error.kind()) || is_of_peer(error.kind()) => Ok(false),
-            Err(_) => Err(Trouble::Failed),
+            Err(error) => self.miss(why_missed(&error)),
         }
+    }
+
+    // No connection was taken. There may be no descriptor for a while: others give theirs back.
+    fn miss(&mut self, why: Missed) -> Result<(), Trouble> {
+        if why == Missed::NotListening {
+            return Err(Trouble::Failed);
+        }
+        if why != Missed::NoDescriptor {
+            self.lacking = None;
+            return Ok(());
+        }
+        let time = now(&self.rt)?;
+        let since = self.lacking.unwrap_or(time);
+        self.lacking = Some(since);
+        if time >= since.saturating_add(LACK_MILLISECONDS) {
+            return Err(Trouble::Failed);
+        }
+        Ok(())
     }
 
     // Waits for bytes of the connection, for a second at most.
     fn read(&mut self) -> Result<HubEvent, Trouble>
         ensures { IfOk result IsEvent }
     {
-        let mut bytes = Vec::from_elem(self.alloc, 0u8, PIECE)?;
         let Some(stream) = &mut self.stream else {
             return Err(Trouble::Failed);
         };
-        match stream.read(&mut bytes) {
-            Ok(0) => Ok(self.hang_up()),
-            Ok(count) => {
-                bytes.truncate(count);
-                Ok(HubEvent::Bytes(self.newest, Octets::from_vec(bytes)))
+        match read_piece(self.alloc, stream)? {
+            Found::Piece(bytes) => {
+                self.silent = 0;
+                Ok(HubEvent::Bytes(self.newest, bytes))
             }
-            Err(error) if is_wait(error.kind()) => self.moment(),
-            Err(error) if is_of_peer(error.kind()) => Ok(self.hang_up()),
-            Err(_) => Err(Trouble::Failed),
+            Found::Silence => self.wait(),
+            Found::End => Ok(self.hang_up()),
         }
+    }
+
+    // Nothing came for a second. A connection that was silent for two is let go where another one waits and is to be served.
+    fn wait(&mut self) -> Result<HubEvent, Trouble>
+        ensures { IfOk result IsEvent }
+    {
+        self.silent = self.silent.saturating_add(1);
+        if self.silent >= SILENCES && self.newest < self.connections {
+            self.look()?;
+            if self.next.is_some() {
+                return Ok(self.hang_up());
+            }
+        }
+        self.moment()
     }
 
     // Lets the connection go.
@@ -167,8 +222,8 @@ impl<R: Net + Clock + Drop> Listening<R> {
         HubEvent::Closed(self.newest)
     }
 
-    /// Sends to the peer, if it is connected. A peer that takes nothing more is disconnected, and the next read tells
-    /// that it has closed.
+    /// Sends to the peer, if it is connected. A peer that does not take all of it in time is disconnected, and the next
+    /// read tells that it has closed.
     pub fn send(&mut self, peer: u32, bytes: &[u8]) -> Result<(), Trouble> {
         if peer != self.newest {
             return Ok(());
@@ -176,53 +231,25 @@ impl<R: Net + Clock + Drop> Listening<R> {
         let Some(stream) = &mut self.stream else {
             return Ok(());
         };
-        match stream.write_all(bytes) {
-            Ok(()) => Ok(()),
-            Err(error) if is_wait(error.kind()) || is_of_peer(error.kind()) => {
-                let _ = stream.shutdown(Shutdown::Both);
-                Ok(())
-            }
-            Err(_) => Err(Trouble::Failed),
+        if !send_all(&self.rt, stream, bytes)? {
+            let _ = stream.shutdown(Shutdown::Both);
         }
+        Ok(())
     }
 
-    /// Closes the peer, if it is connected.
+    /// Closes the peer, if it is connected. It still gets what was sent to it.
     pub fn close(&mut self, peer: u32) {
-        if peer == self.newest && self.stream.is_some() {
-            self.hang_up();
+        if peer != self.newest {
+            return;
         }
+        let Some(stream) = &mut self.stream else {
+            return;
+        };
+        finish(&self.rt, stream);
+        self.hang_up();
     }
 }
 
 fn failed(_: io::Error) -> Trouble {
     Trouble::Failed
-}
-
-// Asks for the timeouts, and for no delay of small messages.
-fn prepare<S: OpenStream>(stream: &S) -> io::Result<()> {
-    stream.set_read_timeout(Some(Duration::from_secs(READ_SECONDS)))?;
-    stream.set_write_timeout(Some(Duration::from_secs(WRITE_SECONDS)))?;
-    stream.set_nodelay(true)
-}
-
-// Whether nothing has come in time.
-fn is_wait(kind: ErrorKind) -> bool {
-    matches!(kind, ErrorKind::WouldBlock | ErrorKind::Interrupted)
-}
-
-// Whether it is the connection that has failed, and not the hub.
-fn is_of_peer(kind: ErrorKind) -> bool {
-    matches!(
-        kind,
-        ErrorKind::ConnectionReset
-            | ErrorKind::ConnectionAborted
-            | ErrorKind::NotConnected
-            | ErrorKind::BrokenPipe
-            | ErrorKind::TimedOut
-            | ErrorKind::HostUnreachable
-            | ErrorKind::NetworkUnreachable
-            | ErrorKind::NetworkDown
-            | ErrorKind::UnexpectedEof
-            | ErrorKind::WriteZero
-    )
 }

@@ -13,14 +13,20 @@ use std::time::Clock;
 /// A hub over TCP that serves one connection at a time.
 ///
 /// It binds its address at the first call of `next`, which tells a moment. From then on it accepts connections, one
-/// after the other: the k-th of them is the peer k. Where nothing has come for a second, neither a connection nor
+/// after the other: the k-th of them is the peer k. Where the last moment was told a second ago, each call tells the
+/// moment before anything else, also while bytes come; and where nothing has come for a second, neither a connection nor
 /// bytes, it tells the moment, so each call answers. A moment is the time of the machine's monotonic clock in
 /// milliseconds, and never goes back. Once as many connections as it was made for have closed, from either side, it
 /// tells the end.
 ///
-/// A connection that the peer resets, or that the network gives up, has closed. Bytes that are sent to a peer that is
-/// not connected, or that has closed, are lost; a peer that takes no bytes for ten seconds is disconnected. What fails
-/// otherwise, as the binding of an address in use, is a fault of the hub, and is counted.
+/// A connection that was silent for two seconds is closed where another one waits, unless it is the last that is to be
+/// served. Whatever else goes wrong with a connection, as that the peer resets it or that the network gives it up, has
+/// closed it. Bytes that are sent to a peer that is not connected, or that has closed, are lost; a peer that does not take
+/// all the bytes of one sending within ten seconds is disconnected. A peer that is closed still gets what was sent to it:
+/// for a second, until it closes too, what it sends is read and dropped.
+///
+/// A fault of the hub, which is counted, is that the address can't be bound, that it is no longer listened, that the clock
+/// can't be read, and that for ten seconds there is no descriptor for a connection.
 #[derive(Drop)]
 pub struct TcpHub<R: Net> {
     listening: Listening<R>,

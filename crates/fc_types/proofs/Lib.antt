@@ -3,6 +3,8 @@ pub mod BuiltIns
 pub mod Distinct
 pub mod Faults
 pub mod Inside
+pub mod Keys
 pub mod Nests
+pub mod Ordered
 pub mod Rising
 pub mod Sounds

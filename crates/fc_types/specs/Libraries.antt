@@ -3,7 +3,7 @@
 use Rattle.std.specs.Prelude.{ℕ, ◌≤◌, ◌==◌, nat_eq, nat_le, Bool, true, not, ◌&&◌, List, [], ◌∷◌, ◌++◌, map, length, count_by, Option, Some, None, if◌then◌else◌, ◌≡◌}
 use Rattle.std.specs.List.{list_all, list_any}
 use Rattle.std.specs.List.Sorted.{IsStrictlySortedBy}
-use Rattle.std.specs.Ordering.{nat_cmp, ordering_then, is_lt}
+use Rattle.std.specs.Ordering.{nat_cmp, ordering_then}
 use Rattle.std.specs.declared.cmp.Ordering.{Ordering}
 use Rattle.fc_types.specs.BuiltIn.{is_built_in}
 use Rattle.fc_types.specs.Ids.{is_distinct}
@@ -52,16 +52,6 @@ pub record AreInstances (pairs : List (ℕ × ℕ)) : Type 0 where
   pub rising : AreRising pairs
   pub few : count_by is_own_instance pairs ≤ 4096
   pub all : length pairs ≤ 4099
-
--- the first of the instances, if any, is above one
-abbrev pub is_below : ℕ × ℕ → List (ℕ × ℕ) → Bool
-is_below p [] = true
-is_below p (q ∷ qs) = is_lt (pair_cmp p q)
-
--- each instance is below the next one
-abbrev pub is_rising : List (ℕ × ℕ) → Bool
-is_rising [] = true
-is_rising (p ∷ ps) = is_below p ps && is_rising ps
 
 -- at most 256 classes, 4,096 instances, and 1,024 members of a class
 abbrev pub are_few : List Class → List (ℕ × ℕ) → Bool

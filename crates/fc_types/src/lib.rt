@@ -22,7 +22,7 @@ pub use built_in::{FE_OBJECT, FE_PROTOCOL, MASTERSHIP, is_built_in, is_live};
 pub use class::{Class, Component, EventDecl, When};
 pub use class_rules::target_type;
 pub use fault::CheckFault;
-pub use ids::{Identified, are_distinct, has_id, with_id};
+pub use ids::{Identified, are_apart, are_distinct, has_id, with_id};
 pub use laws::{
     different_ids, first_fault_is_first, inside_types, nesting_types, sound_components, sound_level,
 };

@@ -1,7 +1,8 @@
 // A library of classes, and the instances that an element has of them.
 ghost use Rattle.std.specs.Prelude.{◌≡◌, ◌≢◌, ◌≤◌, ◌++◌, length, map, true, false, Some, None, IfOk, OnOk, IfErr};
 ghost use Rattle.std.specs.List.{list_all};
-ghost use Rattle.fc_types.specs.Libraries.{is_below, is_rising};
+ghost use Rattle.fc_types.specs.Ids.{is_below, is_rising};
+ghost use Rattle.fc_types.specs.Libraries.{pair_cmp};
 ghost use Rattle.std.specs.List.Sorted.{IsPermutation};
 
 use crate::built_in::MASTERSHIP;
@@ -208,7 +209,7 @@ impl Duplicate for Instances {
 
 // Whether each pair is below the next one.
 fn are_rising(pairs: &[(u32, u32)]) -> bool
-    ensures { result ≡ is_rising pairs.now }
+    ensures { result ≡ is_rising pair_cmp pairs.now }
 {
     let mut rest = pairs;
     while let [first, others @ ..] = rest {
@@ -222,7 +223,7 @@ fn are_rising(pairs: &[(u32, u32)]) -> bool
 
 // Whether the first of the pairs, if any, is above this one.
 fn begin_above(pairs: &[(u32, u32)], pair: (u32, u32)) -> bool
-    ensures { result ≡ is_below pair pairs.now }
+    ensures { result ≡ is_below pair_cmp pair pairs.now }
 {
     match pairs {
         [] => true,

@@ -489,6 +489,53 @@ fn limits_of_counts(rt: HostRuntime) -> Result<(), Fail> {
     Ok(())
 }
 
+// An array with so many keys of the fields 1, whose IDs fall to 1, and then one with the last ID.
+fn with_keys(alloc: Global, count: u32, last: u32, fields: &[u32]) -> Result<Ty, Memory> {
+    let mut keys = List::new(alloc);
+    for id in 0..count {
+        keys.push(key(alloc, count - id, fields)?)?;
+    }
+    keys.push(key(alloc, last, fields)?)?;
+    let entry = pair(alloc, (1, word()), (2, text()))?;
+    Ok(Ty::Array {
+        entry: Boxed::new(alloc, entry)?,
+        entries: 4,
+        keys,
+    })
+}
+
+#[test]
+fn arrays_of_many_keys(rt: HostRuntime) -> Result<(), Fail> {
+    let alloc = rt.alloc();
+    for (count, last, fault) in [
+        (31, 32, None),
+        (31, 1, Some(CheckFault::DuplicateId)),
+        (32, 33, None),
+        (32, 32, Some(CheckFault::DuplicateId)),
+        (32, 1, Some(CheckFault::DuplicateId)),
+        (300_000, 0xFFFF_FFFF, None),
+        (300_000, 150_000, Some(CheckFault::DuplicateId)),
+    ] {
+        let ty = with_keys(alloc, count, last, &[1])?;
+        assert_eq!(rt; fault_of_type(alloc, ty)?, fault, "{count} {last}");
+    }
+    Ok(())
+}
+
+#[test]
+fn keys_of_many_fields(rt: HostRuntime) -> Result<(), Fail> {
+    let alloc = rt.alloc();
+    let mut ids = Vec::new(alloc);
+    for id in 0..300_000u32 {
+        ids.push(id)?;
+    }
+    let fault = fault_of_type(alloc, with_keys(alloc, 0, 1, &ids)?)?;
+    assert_eq!(rt; fault, Some(CheckFault::KeyNotAtomic));
+    let whole = fault_of_type(alloc, with_keys(alloc, 0, 1, &[2, 1])?)?;
+    assert_eq!(rt; whole, None);
+    Ok(())
+}
+
 fn push_field(fields: &mut List<Field>, id: u32, name: &str, ty: Ty) -> Result<(), Memory> {
     let field = named_field(fields.alloc(), id, name, ty)?;
     fields.push(field)

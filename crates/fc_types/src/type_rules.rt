@@ -6,7 +6,7 @@ ghost use Rattle.fc_types.specs.Types.{field_ty, inside, throughout};
 ghost use Rattle.fc_types.specs.TypeRules.{keeps};
 
 use crate::size::fits_inside;
-use crate::{Field, KeyDecl, Ty, are_distinct, with_id};
+use crate::{Field, KeyDecl, Ty, are_apart, with_id};
 use fc_base::List;
 
 /// A rule of a type, apart from the types inside it.
@@ -72,8 +72,8 @@ fn has_distinct_ids(ty: &Ty) -> bool
     ensures { result ≡ spec.has_distinct_ids ty.now }
 {
     match ty {
-        Ty::Struct { fields } => are_distinct(fields.as_slice()),
-        Ty::Array { keys, .. } => are_distinct(keys.as_slice()),
+        Ty::Struct { fields } => are_apart(fields),
+        Ty::Array { keys, .. } => are_apart(keys),
         _ => true,
     }
 }
@@ -165,11 +165,15 @@ pub fn fields_of(ty: &Ty) -> &[Field]
     }
 }
 
+// A key with more fields than the struct has one twice, or one that the struct has not.
 fn is_key(fields: &[Field], key: &KeyDecl) -> bool
     ensures { result ≡ spec.is_key fields.now key.now }
 {
     let ids = key.fields.as_slice();
-    !ids.is_empty() && are_distinct(ids) && are_atoms(fields, ids)
+    if ids.len() > fields.len() {
+        return false;
+    }
+    !ids.is_empty() && are_apart(&key.fields) && are_atoms(fields, ids)
 }
 
 // Whether each ID is that of a field whose type is neither a struct nor an array.

@@ -5,6 +5,7 @@ pub mod Distinct
 pub mod Entries
 pub mod Fitting
 pub mod Layers
+pub mod Longest
 pub mod Nesting
 pub mod Numbers
 pub mod OneEntry

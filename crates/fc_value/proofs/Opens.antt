@@ -64,7 +64,7 @@ opening_law ty = ap opening (sym (roll-out-Ty ty)) ∙ rolled (out-Ty ty)
 pub nearest_in : (min max : ℤ) → int_le min max ≡ true → InRange min max (nearest min max)
 nearest_in min max h = (grind (arith, ints, h), grind (arith, ints, h))
 
-zeros_bytes : (n : ℕ) → AllByRecursion (λ b. b < 256) (replicate n 0)
+pub zeros_bytes : (n : ℕ) → AllByRecursion (λ b. b < 256) (replicate n 0)
 zeros_bytes zero = tt
 zeros_bytes (suc n) = (omega arith, zeros_bytes n)
 
@@ -72,7 +72,7 @@ no_keys : (fields : List Field) (keys : List KeyDecl) → keys_differ fields key
 no_keys fields [] = refl
 no_keys fields (key ∷ keys) = no_keys fields keys
 
-in_order : (o : Option (ℤ × ℤ)) (min max : ℤ) → is_range o min max ≡ true → int_le min max ≡ true
+pub in_order : (o : Option (ℤ × ℤ)) (min max : ℤ) → is_range o min max ≡ true → int_le min max ≡ true
 in_order None min max h = cc
 in_order (Some ends) min max h =
     let p : ((int_le ends.0 min && int_le min max) ≡ true) × (int_le max ends.1 ≡ true) = both _ _ h in

@@ -29,7 +29,7 @@ use Rattle.fc_value.proofs.Conditions.{both, then_is}
 use Rattle.fc_value.proofs.Numbers.{Ends, digits_long, again_1, again_2, again_4, again_8}
 
 -- one level of what is written
-abbrev write_layer : Ty-F Ty Field → Value → List ℕ
+abbrev pub write_layer : Ty-F Ty Field → Value → List ℕ
 write_layer Ty-F.Bool v = truth_layer (out-Value v)
 write_layer (Ty-F.Number w s min max) v = number_layer w (out-Value v)
 write_layer (Ty-F.String n) v = full_data (bare_bytes v)
@@ -60,11 +60,11 @@ rolled (Ty-F.Bytes length) v = ap (λ (w : Writer). w v) (fold-roll-Ty Writer Wr
 rolled (Ty-F.Struct fields) v = struct_rolled fields v ∙ ap (λ ws. group_layer ws (out-Value v)) (fields_are fields)
 rolled (Ty-F.Array entry entries keys) v = ap (λ (w : Writer). w v) (fold-roll-Ty Writer Writer inside_step field_step _)
 
-written_law : (ty : Ty) (v : Value) → inside_bytes ty v ≡ write_layer (out-Ty ty) v
+pub written_law : (ty : Ty) (v : Value) → inside_bytes ty v ≡ write_layer (out-Ty ty) v
 written_law ty v = ap (λ t. inside_bytes t v) (sym (roll-out-Ty ty)) ∙ rolled (out-Ty ty) v
 
 -- one level of the greatest length
-abbrev size_layer : Ty-F Ty Field → ℕ
+abbrev pub size_layer : Ty-F Ty Field → ℕ
 size_layer Ty-F.Bool = 1
 size_layer (Ty-F.Number bytes s min max) = bytes
 size_layer (Ty-F.String n) = padded (4 + n)
@@ -73,7 +73,7 @@ size_layer (Ty-F.Bytes n) = n
 size_layer (Ty-F.Struct fields) = sum (map full_size_at fields)
 size_layer (Ty-F.Array entry limit keys) = padded (4 + limit * (4 + full_size entry))
 
-field_size : (f : Field) → full_size_at f ≡ full_size (field_ty f)
+pub field_size : (f : Field) → full_size_at f ≡ full_size (field_ty f)
 field_size f = ap full_size_at (sym (roll-out-Field f)) ∙ fold-roll-Field ℕ ℕ size_step size_field (out-Field f)
 
 size_rolled : (l : Ty-F Ty Field) → full_size (roll-Ty l) ≡ size_layer l
@@ -85,7 +85,7 @@ size_rolled (Ty-F.Bytes length) = fold-roll-Ty ℕ ℕ size_step size_field _
 size_rolled (Ty-F.Struct fields) = fold-roll-Ty ℕ ℕ size_step size_field _
 size_rolled (Ty-F.Array entry entries keys) = fold-roll-Ty ℕ ℕ size_step size_field _
 
-size_law : (ty : Ty) → full_size ty ≡ size_layer (out-Ty ty)
+pub size_law : (ty : Ty) → full_size ty ≡ size_layer (out-Ty ty)
 size_law ty = ap full_size (sym (roll-out-Ty ty)) ∙ size_rolled (out-Ty ty)
 
 -- a FULLDATA
@@ -107,12 +107,12 @@ full_data_is body h = record {
     high : (n : ℕ) → n < 2 ^ 16 → n / 256 % 256 ≡ n / 2 ^ 8
     high n k = omega (arith, k)
 
-full_data_long : (body : List ℕ) → length (full_data body) ≡ padded (4 + length body)
+pub full_data_long : (body : List ℕ) → length (full_data body) ≡ padded (4 + length body)
 unfolding full_data
 full_data_long body = omega (arith, length-append body (padding (length body)), padding_long (length body))
 
 -- each level of a value
-truth_out : (v : Value) (l : Value-F Value) → v ≡ roll-Value l → out-Value v ≡ l
+pub truth_out : (v : Value) (l : Value-F Value) → v ≡ roll-Value l → out-Value v ≡ l
 truth_out v l e = ap out-Value e ∙ out-roll-Value l
 
 within : (lo hi min max z : ℤ) → is_range (Some (lo, hi)) min max ≡ true → InRange min max z → (int_le lo z ≡ true) × (int_le z hi ≡ true)
@@ -164,7 +164,7 @@ again_at w s min max z h r =
       ],
     )
 
-number_written : (w : ℕ) (s : Bool) (min max z : ℤ) (v : Value) → is_range (span w s) min max ≡ true → v ≡ value.Number z → InRange min max z
+pub number_written : (w : ℕ) (s : Bool) (min max z : ℤ) (v : Value) → is_range (span w s) min max ≡ true → v ≡ value.Number z → InRange min max z
     → IsNumber w s min max v (number_bytes w z) × (length (number_bytes w z) ≡ w)
 number_written w s min max z v h e r =
     let p = again_at w s min max z h r in
@@ -178,7 +178,7 @@ joined : (old ps : List (ℕ × Value)) → AreJoined old ps (old ++ ps)
 joined old [] = append-nil old
 joined old (p ∷ ps) = (old, [], sym (append-nil old), subst (AreJoined (old ++ p ∷ []) ps) (append_assoc old (p ∷ []) ps) (joined (old ++ p ∷ []) ps))
 
-upto : (limit n : ℕ) → is_upto limit n ≡ true → n ≤ limit
+pub upto : (limit n : ℕ) → is_upto limit n ≡ true → n ≤ limit
 upto limit n h = grind arith
 
 at_most : (m n : ℕ) → nat_le m n ≡ true → m ≤ n
@@ -264,7 +264,7 @@ module _ (depth : ℕ) (canon : (ty : Ty) (v : Value) → IsSoundInside ty → F
       let c = table_canon entry limit keys v s.inner h in
       text_written (limit * (4 + full_size entry)) v (IsTable (IsInside depth) entry limit keys) (table_layer (inside_bytes entry) (out-Value v)) (at_most _ _ f) c.1 c.0
 
-inside_canon : (depth : ℕ) (ty : Ty) (v : Value) → IsSoundInside ty → FitsIn depth ty v → IsInside depth ty v (inside_bytes ty v) × (length (inside_bytes ty v) ≤ full_size ty)
+pub inside_canon : (depth : ℕ) (ty : Ty) (v : Value) → IsSoundInside ty → FitsIn depth ty v → IsInside depth ty v (inside_bytes ty v) × (length (inside_bytes ty v) ≤ full_size ty)
 inside_canon zero ty v s h = absurd h
 inside_canon (suc depth) ty v s h =
     let c = layer_canon depth (inside_canon depth) (out-Ty ty) v (level_is_sound ty s.sound) s.fit h in

@@ -1,5 +1,5 @@
 -- Keys of entries (RFC 5812, section 4.5.3; how a key's value is written is this profile's own).
-use Rattle.std.specs.Prelude.{ℕ, ◌==◌, Bool, true, ◌&&◌, List, [], ◌∷◌, map, bytes_eq, Option, Some, None, if◌then◌else◌}
+use Rattle.std.specs.Prelude.{ℕ, ◌==◌, Bool, true, false, ◌&&◌, List, [], ◌∷◌, map, bytes_eq, Option, Some, None, if◌then◌else◌}
 use Rattle.std.specs.List.{flat_map, list_all}
 use Rattle.std.specs.Ordering.{nat_cmp, is_lt}
 use Rattle.std.specs.Cmp.Lexicographic.{slice_cmp}
@@ -8,6 +8,8 @@ use Rattle.fc_types.specs.Types.{field_id, field_ty}
 use Rattle.fc_types.specs.declared.ty.KeyDecl.{KeyDecl}
 use Rattle.fc_types.specs.declared.ty.Field.{Field}
 use Rattle.fc_types.specs.declared.ty.Ty.{Ty}
+use Rattle.fc_types.specs.declared.ty.Ty.TheOpen.{Ty-F}
+use Rattle.fc_types.specs.declared.ty.Ty.TheViews.{out-Ty}
 use Rattle.fc_value.specs.Writing.{Writer, full_bytes, inside_bytes}
 use Rattle.fc_value.specs.declared.value.Value.{Value, out-Value}
 use Rattle.fc_value.specs.declared.value.Value.TheOpen.{Value-F}
@@ -50,6 +52,15 @@ differ_in fields es key = is_distinct bytes_eq (key_values fields key es)
 
 abbrev pub keys_differ : List Field → List KeyDecl → List (ℕ × Value) → Bool
 keys_differ fields keys es = list_all (differ_in fields es) keys
+
+-- a type that is no array with keys
+abbrev pub own_no_keys : Ty-F Ty Field → Bool
+own_no_keys (Ty-F.Array entry limit []) = true
+own_no_keys (Ty-F.Array entry limit (key ∷ keys)) = false
+own_no_keys _ = true
+
+abbrev pub has_no_keys : Ty → Bool
+has_no_keys ty = own_no_keys (out-Ty ty)
 
 -- the first of some bytes, if any, is above these
 abbrev pub is_below : List ℕ → List (List ℕ) → Bool

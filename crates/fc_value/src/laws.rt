@@ -1,14 +1,16 @@
 // Laws of the full form of values, and of the nodes in them.
-ghost use Rattle.std.specs.Prelude.{◌≡◌, ◌≤◌, ◌++◌, List, ℕ, ℤ, true, Ok, Some, None, option_map, unsigned_abs};
-ghost use Rattle.fc_types.specs.Sound.{IsSound};
+ghost use Rattle.std.specs.Prelude.{◌≡◌, ◌≤◌, ◌++◌, List, ℕ, ℤ, length, true, Ok, Some, None, option_map, unsigned_abs};
+ghost use Rattle.fc_types.specs.Sound.{IsSound, IsSoundInside};
+ghost use Rattle.fc_types.specs.Types.{full_size, throughout};
 ghost use Rattle.fc_types.specs.declared.ty.Ty.{Ty};
 ghost use Rattle.fc_wire.specs.Bytes.{AreBytes};
 ghost use Rattle.fc_value.specs.Fits.{Fits};
 ghost use Rattle.fc_value.specs.FullForm.{InRange, IsFull};
+ghost use Rattle.fc_value.specs.Keys.{has_no_keys};
 ghost use Rattle.fc_value.specs.Nodes.{are_apart, node_at, put_at};
 ghost use Rattle.fc_value.specs.Opening.{nearest, opening};
 ghost use Rattle.fc_value.specs.Reading.{full_in};
-ghost use Rattle.fc_value.specs.Writing.{full_bytes};
+ghost use Rattle.fc_value.specs.Writing.{full_bytes, inside_bytes};
 ghost use Rattle.fc_value.specs.declared.value.Value.{Value};
 
 /// Reading gives a value exactly where the bytes are a full form of it, and so bytes are the full form of one value at
@@ -30,6 +32,13 @@ pub fn opening_values()
 pub fn written_values_are_read()
     ensures form { (ty : Ty) (v : Value) → IsSound ty → Fits ty v → IsFull ty v (full_bytes ty v) }
     ensures again { (ty : Ty) (v : Value) → IsSound ty → Fits ty v → full_in ty (full_bytes ty v) ≡ Ok v }
+{}
+
+/// What is written of a value that fits, where it stands in a struct or an entry, is at most as long as the declared size of
+/// its type, and some value reaches that size, unless an array has keys, which entries may be too many to differ in.
+pub fn sizes_bound_what_is_written()
+    ensures most { (ty : Ty) (v : Value) → IsSoundInside ty → Fits ty v → length (inside_bytes ty v) ≤ full_size ty }
+    ensures reached { (ty : Ty) → IsSound ty → throughout has_no_keys ty ≡ true → (v : Value) × Fits ty v × (length (inside_bytes ty v) ≡ full_size ty) }
 {}
 
 /// What a node that is put leaves of a value: it stands at its places, with all that is in it; the nodes through which its

@@ -17,9 +17,12 @@ mod value;
 mod write;
 
 pub use key::key_value;
-pub use laws::{opening_values, other_places_stay, reading_is_the_form, written_values_are_read};
+pub use laws::{
+    opening_values, other_places_stay, reading_is_the_form, sizes_bound_what_is_written,
+    written_values_are_read,
+};
 pub use live::Live;
-pub use nodes::{node, node_mut, replace_node};
+pub use nodes::{node, replace_node};
 pub use opening::first;
 pub use read::read_full;
 pub use sparse::read_sparse;

@@ -34,31 +34,6 @@ pub fn node<'a>(value: &'a Value, places: &[usize]) -> Option<&'a Value>
     }
 }
 
-// The value at a place of a struct or of an array, to be changed.
-fn child_mut(value: &mut Value, at: usize) -> Option<&mut Value>
-    ensures { option_map (λ v. v.now) result ≡ spec.child at value.old }
-{
-    match value {
-        Value::Group(values) => values.get_mut(at),
-        Value::Table(entries) => match entries.get_mut(at) {
-            Some((_, entry)) => Some(entry),
-            None => None,
-        },
-        _ => None,
-    }
-}
-
-/// The node to which places lead, to be changed; none exactly where a place is not there. What the whole value is after a
-/// write through it no clause says: [`replace_node`] is the way to change a node where that counts.
-pub fn node_mut<'a>(value: &'a mut Value, places: &[usize]) -> Option<&'a mut Value>
-    ensures value { option_map (λ v. v.now) result ≡ node_at places.now value.old }
-{
-    match places {
-        [] => Some(value),
-        [first, rest @ ..] => node_mut(child_mut(value, *first)?, rest),
-    }
-}
-
 /// Puts another value in the place of the node to which places lead, and gives that node; all other places stay as they
 /// are. Where a place is not there nothing changes, and the other value is given back as the error.
 #[cycle(replace)]

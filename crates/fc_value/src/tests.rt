@@ -4,7 +4,7 @@ ghost use Rattle.fc_types.specs.BuiltIn.{is_live};
 ghost use Rattle.fc_value.specs.declared.value.Value.TheVariants.{Number};
 
 use crate::{
-    Live, Value, first, key_value, node, node_mut, read_full, read_sparse, replace_node, write_full,
+    Live, Value, first, key_value, node, read_full, read_sparse, replace_node, write_full,
 };
 use fc_base::{Boxed, Code, Duplicate, List, Memory, Octets, OpFault, Text};
 use fc_types::{Field, KeyDecl, Ty, is_live};
@@ -551,17 +551,11 @@ fn nodes_of_values(rt: HostRuntime) -> Result<(), Fail> {
     let absent: [&[usize]; 4] = [&[2], &[0, 2], &[0, 0, 0, 0], &[1, 0]];
     for places in absent {
         assert!(rt; node(&value, places).is_none());
-        assert!(rt; node_mut(&mut value, places).is_none());
         let left = replace_node(&mut value, places, Value::Truth(true)).err();
         assert!(rt; left == Some(Value::Truth(true)));
     }
-    if let Some(found) = node_mut(&mut value, &[0, 1, 0]) {
-        *found = Value::Number(8);
-    }
-    assert!(rt; node(&value, &[0, 1, 0]) == Some(&Value::Number(8)));
-    assert!(rt; node(&value, &[0, 0, 0]) == Some(&Value::Number(5)));
     let before = replace_node(&mut value, &[0, 1, 0], Value::Number(7)).ok();
-    assert!(rt; before == Some(Value::Number(8)));
+    assert!(rt; before == Some(Value::Number(6)));
     assert!(rt; node(&value, &[0, 1, 0]) == Some(&Value::Number(7)));
     assert!(rt; node(&value, &[0, 0, 0]) == Some(&Value::Number(5)));
     Ok(())

@@ -2,10 +2,11 @@
 #![tactic(auto)]
 
 use fc_base::{Memory, StdSink, StdSource};
-use fc_hub::TcpHub;
+use fc_hub::{Patient, TcpHub};
 use fc_tool::run;
 use fc_words::{Command, WordFault, command};
-use std::alloc::{AllocError, Global};
+use std::alloc::Global;
+use std::io::ErrorKind;
 use std::process::ExitCode;
 use std::rt::Env;
 use std::{env, io};
@@ -13,12 +14,16 @@ use std::{env, io};
 const NO_MEMORY: u8 = 9;
 
 // The words after the program's name. Words that are no text in UTF-8 make none, which is no command.
-fn words(alloc: Global, rt: &(impl Env + AllocGlobal)) -> Result<Vec<String>, AllocError> {
+fn words(alloc: Global, rt: &(impl Env + AllocGlobal)) -> Result<Vec<String>, Memory> {
     let mut words = Vec::new(alloc);
-    if let Ok(args) = env::args(rt) {
-        for word in args.skip(1) {
-            words.push(word)?;
+    match env::args(rt) {
+        Ok(args) => {
+            for word in args.skip(1) {
+                words.push(word)?;
+            }
         }
+        Err(error) if error.kind() == ErrorKind::OutOfMemory => return Err(Memory),
+        Err(_) => {}
     }
     Ok(words)
 }
@@ -52,7 +57,7 @@ fn main(rt: HostRuntime) -> ExitCode {
     let Ok(mut hub) = hub(alloc, &rt, words.as_slice()) else {
         return ExitCode::from(NO_MEMORY);
     };
-    let mut input = StdSource::new(rt.reader());
-    let mut out = StdSink::new(io::writer(&rt));
+    let mut input = StdSource::new(Patient::new(&rt, rt.reader()));
+    let mut out = StdSink::new(Patient::new(&rt, io::writer(&rt)));
     ExitCode::from(run(alloc, words.as_slice(), &mut input, &mut out, &mut hub))
 }

@@ -1,9 +1,10 @@
 use Rattle.std.proofs.Common.{◌≡◌, length}
-use Rattle.fc_types.specs.Libraries.{is_rising}
+use Rattle.fc_types.specs.Ids.{is_rising}
+use Rattle.fc_types.specs.Libraries.{pair_cmp}
 use Rattle.fc_types.proofs.library.are_rising.Given as goal
 
 abbrev pub invariant-loop-rest : goal.invariant-loop-rest
-invariant-loop-rest l = is_rising l.rest ≡ is_rising l.pairs
+invariant-loop-rest l = is_rising pair_cmp l.rest ≡ is_rising pair_cmp l.pairs
 
 abbrev pub decreases-loop-rest : goal.decreases-loop-rest
 decreases-loop-rest l = length l.rest
