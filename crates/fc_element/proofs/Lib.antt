@@ -1,2 +1,3 @@
 pub mod Beats
 pub mod Fitting
+pub mod Said

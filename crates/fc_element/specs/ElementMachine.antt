@@ -4,7 +4,7 @@ use Rattle.std.specs.FinMap.{contains_key, entries, remove, len}
 use Rattle.fc_base.specs.Hex.{hex}
 use Rattle.fc_assoc.specs.Associations.{AssociationMap, entered, renewed, still_heard}
 use Rattle.fc_wire.specs.Flags.{FlagValues}
-use Rattle.fc_msg.specs.Messages.{message_fits}
+use Rattle.fc_msg.specs.Messages.{IsProper, message_fits}
 use Rattle.fc_msg.specs.declared.message.Message.{Message}
 use Rattle.fc_msg.specs.declared.message.MsgBody.{MsgBody}
 use Rattle.fc_msg.specs.declared.message.MsgBody.TheVariants.{Setup, SetupResponse, Teardown, Config, ConfigResponse, Query, QueryResponse, Event, Heartbeat}
@@ -121,6 +121,10 @@ step s (Moment moment) = beating (watched (moved_on s moment))
 -- a message that has a spelling: no length in it is too long for its field
 abbrev pub CanBeSent : Out → Type 0
 CanBeSent o = message_fits o.message ≡ true
+
+-- a message that the grammar has, and so one that is decoded as itself
+abbrev pub IsSaid : Out → Type 0
+IsSaid o = IsProper o.message
 
 -- the report on an element: its ID, the epoch, its master and the sequence
 abbrev pub report_text : ℕ → ℕ → List ℕ

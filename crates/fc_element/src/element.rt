@@ -2,7 +2,7 @@
 ghost use Rattle.std.specs.Prelude.{◌≡◌, ◌++◌, IfOk, OnOk, OnErr};
 ghost use Rattle.std.specs.List.{AllByRecursion};
 ghost use Rattle.fc_base.specs.Ids.{IsCe};
-ghost use Rattle.fc_element.specs.ElementMachine.{CanBeSent, step, beating, is_due, moved_on, on_body, on_message, report_of, setup_of, turn, out, watched};
+ghost use Rattle.fc_element.specs.ElementMachine.{CanBeSent, IsSaid, step, beating, is_due, moved_on, on_body, on_message, report_of, setup_of, turn, out, watched};
 ghost use Rattle.fc_element.specs.ElementState.{opened};
 
 use crate::replies::{ALWAYS, answer, one, push_beats, setup};
@@ -52,11 +52,12 @@ impl Element {
         })
     }
 
-    /// Takes an input, and gives the messages that it sends, in their order, each of which can be encoded. After an `Err`
-    /// nothing has changed, as if the input had been lost.
+    /// Takes an input, and gives the messages that it sends, in their order, each of which can be encoded and is decoded as
+    /// itself. After an `Err` nothing has changed, as if the input had been lost.
     pub fn step(&mut self, input: ElIn) -> Result<List<Out>, Memory>
         ensures outs { IfOk result (λ outs. outs ≡ (step self.old input).outs) }
         ensures fit { IfOk result (λ outs. AllByRecursion CanBeSent outs) }
+        ensures proper { IfOk result (λ outs. AllByRecursion IsSaid outs) }
         ensures ok { OnOk result (self.new ≡ (step self.old input).state) }
         ensures err { OnErr result (self.new ≡ self.old) }
     {
@@ -67,6 +68,7 @@ impl Element {
     #[tactic(auto, unfolding(crate::specs::ElementMachine::step))]
     fn taken(&mut self, input: ElIn) -> Result<List<Out>, Memory>
         ensures outs { IfOk result (λ outs. outs ≡ (step self.old input).outs) }
+        ensures proper { IfOk result (λ outs. AllByRecursion IsSaid outs) }
         ensures ok { OnOk result (self.new ≡ (step self.old input).state) }
         ensures err { OnErr result (self.new ≡ self.old) }
     {
@@ -81,6 +83,7 @@ impl Element {
     // A message came from a peer.
     fn arrived(&mut self, peer: u32, message: Message) -> Result<List<Out>, Memory>
         ensures outs { IfOk result (λ outs. outs ≡ (on_message self.old peer message).outs) }
+        ensures proper { IfOk result (λ outs. AllByRecursion IsSaid outs) }
         ensures ok { OnOk result (self.new ≡ (on_message self.old peer message).state) }
         ensures err { OnErr result (self.new ≡ self.old) }
     {
@@ -94,6 +97,7 @@ impl Element {
     fn heard(&mut self, ce: CeId, peer: u32, message: &Message) -> Result<List<Out>, Memory>
         requires { ce ≡ message.now.source }
         ensures outs { IfOk result (λ outs. outs ≡ (on_body self.old peer message.now message.now.body).outs) }
+        ensures proper { IfOk result (λ outs. AllByRecursion IsSaid outs) }
         ensures ok { OnOk result (self.new ≡ (on_body self.old peer message.now message.now.body).state) }
         ensures err { OnErr result (self.new ≡ self.old) }
     {
@@ -132,6 +136,7 @@ impl Element {
     // It is this moment.
     fn moment(&mut self, moment: u64) -> Result<List<Out>, Memory>
         ensures outs { IfOk result (λ outs. outs ≡ (beating (watched (moved_on self.old moment))).outs) }
+        ensures proper { IfOk result (λ outs. AllByRecursion IsSaid outs) }
         ensures ok { OnOk result (self.new ≡ (beating (watched (moved_on self.old moment))).state) }
         ensures err { OnErr result (self.new ≡ self.old) }
     {

@@ -1,7 +1,9 @@
 // The messages that an element sends.
-ghost use Rattle.std.specs.Prelude.{◌≡◌, ◌≤◌, ◌<◌, ◌-◌, ◌+◌, [], ◌∷◌, ◌++◌, ℕ, map, length, slice_get, vec_len, vec_capacity, IfOk};
+ghost use Rattle.std.specs.Prelude.{◌≡◌, ◌≤◌, ◌<◌, ◌-◌, ◌+◌, [], ◌∷◌, ◌++◌, ℕ, map, length, slice_get, vec_len, vec_capacity, IfOk, IfSome};
 ghost use Rattle.std.specs.FinMap.{entries};
-ghost use Rattle.fc_element.specs.ElementMachine.{answer_to, asking, beats_of, heartbeat_of, out, setup_of};
+ghost use Rattle.std.specs.List.{AllByRecursion};
+ghost use Rattle.fc_msg.specs.Messages.{IsProper};
+ghost use Rattle.fc_element.specs.ElementMachine.{IsSaid, answer_to, asking, beats_of, heartbeat_of, out, setup_of};
 
 use crate::Out;
 use fc_assoc::Associations;
@@ -32,7 +34,8 @@ fn asking(ack: u8) -> Flags
 
 /// The element asks to be associated.
 pub fn setup(alloc: Global, id: FeId) -> Message
-    ensures { result ≡ setup_of id }
+    ensures exact { result ≡ setup_of id }
+    ensures proper { IsProper result }
 {
     Message {
         source: id.get(),
@@ -45,12 +48,14 @@ pub fn setup(alloc: Global, id: FeId) -> Message
 
 /// The answer to a heartbeat.
 pub fn answer(message: &Message) -> Message
-    ensures { result ≡ answer_to message.now }
+    ensures exact { result ≡ answer_to message.now }
+    ensures proper { IsProper result }
 {
+    let (from, to, corr) = (message.dest, message.source, message.corr);
     Message {
-        source: message.dest,
-        dest: message.source,
-        corr: message.corr,
+        source: from,
+        dest: to,
+        corr,
         flags: asking(0),
         body: MsgBody::Heartbeat,
     }
@@ -58,7 +63,8 @@ pub fn answer(message: &Message) -> Message
 
 // A heartbeat to a control element.
 fn heartbeat(id: FeId, ce: CeId) -> Message
-    ensures { result ≡ heartbeat_of id ce }
+    ensures exact { result ≡ heartbeat_of id ce }
+    ensures proper { IsProper result }
 {
     Message {
         source: id.get(),
@@ -71,7 +77,9 @@ fn heartbeat(id: FeId, ce: CeId) -> Message
 
 /// A list of one message to a peer.
 pub fn one(alloc: Global, peer: u32, message: Message) -> Result<List<Out>, Memory>
-    ensures { IfOk result (λ outs. outs ≡ out peer message ∷ []) }
+    requires { IsProper message }
+    ensures sent { IfOk result (λ outs. outs ≡ out peer message ∷ []) }
+    ensures proper { IfOk result (λ outs. AllByRecursion IsSaid outs) }
 {
     let mut outs = List::new(alloc);
     outs.push(Out { peer, message })?;
@@ -80,7 +88,8 @@ pub fn one(alloc: Global, peer: u32, message: Message) -> Result<List<Out>, Memo
 
 // The heartbeat to the association at a place, if there is one.
 fn beat_at(id: FeId, associations: &Associations, place: usize) -> Option<Out>
-    ensures { result ≡ slice_get (beats_of id associations.now) place }
+    ensures exact { result ≡ slice_get (beats_of id associations.now) place }
+    ensures proper { IfSome result IsSaid }
 {
     match associations.entry(place) {
         Some(seen) => Some(Out {
@@ -94,7 +103,8 @@ fn beat_at(id: FeId, associations: &Associations, place: usize) -> Option<Out>
 /// Appends a heartbeat to each association, by rising ID. The list has room for as many as there can be.
 pub fn push_beats(id: FeId, associations: &Associations, outs: &mut Vec<Out>)
     requires { vec_len outs.old + 64 ≤ vec_capacity outs.old }
-    ensures { outs.new.items ≡ outs.old.items ++ beats_of id associations.now }
+    ensures sent { outs.new.items ≡ outs.old.items ++ beats_of id associations.now }
+    ensures proper { AllByRecursion IsSaid outs.old.items → AllByRecursion IsSaid outs.new.items }
 {
     for place in 0..associations.len() {
         match beat_at(id, associations, place) {

@@ -1,8 +1,9 @@
 // Messages to bytes.
-ghost use Rattle.std.specs.Prelude.{◌≡◌, ◌≤◌, ◌<◌, ◌++◌, length, Some, true, false, map, OnOk, OnErr};
+ghost use Rattle.std.specs.Prelude.{◌≡◌, ◌≤◌, ◌<◌, ◌++◌, [], length, Some, true, false, map, OnOk, OnErr};
 ghost use Rattle.std.specs.Result.{IsErrOf};
 ghost use Rattle.fc_base.specs.declared.faults.WriteFault.TheVariants.{TooLong};
 ghost use Rattle.fc_wire.specs.Bytes.{u32_bytes};
+ghost use Rattle.fc_wire.specs.Writing.{writing};
 ghost use Rattle.fc_path.specs.Canon.{Pushed, plain, wrapped};
 ghost use Rattle.fc_msg.specs.Messages.{IsProper, body_written, canonical, framed, message_fits, selects_written, with_body};
 ghost use Rattle.fc_msg.specs.Reading.{message_in};
@@ -12,6 +13,7 @@ use fc_base::{Memory, WriteFault};
 use fc_path::Select;
 use fc_wire::{Header, TlvWriter};
 use std::alloc::Global;
+use std::marker::Model;
 
 /// The most bytes of a body: 65,535 words less those of the header.
 pub const MOST_BODY: usize = 262116;
@@ -28,15 +30,26 @@ pub fn encode(message: &Message, into: &mut Vec<u8>) -> Result<(), WriteFault>
     Encoder::new(*into.allocator()).encode(message, into)
 }
 
-/// Encodes messages one after the other. The room in which the body of one is written is kept for the next.
+/// Encodes messages one after the other. The room in which the body of one is written is kept for the next. Contracts see
+/// what stands in that room.
 #[derive(Debug, Drop)]
 pub struct Encoder {
     writer: TlvWriter,
 }
 
+impl Model for Encoder {
+    ghost use Rattle.fc_wire.specs.Writing.{Writing};
+
+    ghost Value = { Writing };
+
+    ghost view = { λ e. e.writer };
+}
+
 impl Encoder {
-    /// An encoder that has no room yet.
-    pub fn new(alloc: Global) -> Encoder {
+    /// An encoder that has no room yet, in which nothing is written.
+    pub fn new(alloc: Global) -> Encoder
+        ensures empty { result ≡ writing [] [] }
+    {
         Encoder {
             writer: TlvWriter::new(alloc),
         }

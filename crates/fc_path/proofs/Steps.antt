@@ -1,20 +1,17 @@
 -- Reading, one step at a time.
-use Rattle.std.proofs.Common.{◌≡◌, ◌≢◌, ℕ, suc, ◌+◌, ◌*◌, ◌/◌, ◌<◌, ◌≤◌, ◌^◌, ◌==◌, ◌||◌, List, [], ◌∷◌, ◌++◌, length, drop, Bool, true, false, nat_lt, cond, not, Option, Some, None, Result, Ok, Err, refl, sym, ap, ◌∙◌, arith, append_assoc, append-nil, subst, ne_eqb}
-use Rattle.std.specs.Bool.{beq}
+use Rattle.std.proofs.Common.{◌≡◌, ◌≢◌, ℕ, suc, ◌+◌, ◌*◌, ◌/◌, ◌<◌, ◌≤◌, ◌^◌, ◌==◌, ◌||◌, List, [], ◌∷◌, ◌++◌, length, drop, Bool, true, false, nat_lt, cond, Option, Some, None, Result, Ok, Err, refl, sym, ap, ◌∙◌, arith, append_assoc, append-nil, subst, ne_eqb}
 use Rattle.fc_wire.specs.Bytes.{u16_at}
 use Rattle.fc_wire.specs.Tiling.{Tiling, next_of, rest_of}
 use Rattle.fc_wire.specs.Tlvs.{TlvItem, tlvs}
 use Rattle.fc_wire.specs.declared.header.WireFault.{WireFault}
-use Rattle.fc_path.specs.Kinds.{is_known, takes_nothing}
 use Rattle.fc_path.specs.Stray.{◌>>=◌, Fails, beside, shut}
-use Rattle.fc_path.specs.Reading.{each_in, some_in, path_or, body_in, key_at, leaf_at, path_at, content_in, numbers, end_of}
+use Rattle.fc_path.specs.Reading.{each_in, some_in, path_or, body_in, leaf_at, path_at, content_in, numbers, end_of}
 use Rattle.fc_path.specs.declared.fault.PathFault.{PathFault}
 use Rattle.fc_path.specs.declared.fault.PathFault.TheVariants as faults
 use Rattle.fc_path.specs.declared.oper.OperKind.{OperKind}
 use Rattle.fc_path.specs.declared.path.Key.{Key}
 use Rattle.fc_path.specs.declared.path.PathData.{PathData, roll-PathData}
 use Rattle.fc_path.specs.declared.path.Body.{Body}
-use Rattle.fc_path.specs.declared.path.Body.TheVariants.{Nothing}
 
 pub fails_bind : {A B : Type 0} (e : PathFault) (r : Result A PathFault) (f : A → Result B PathFault) → Fails e r → Fails e (r >>= f)
 fails_bind (faults.Wire x) r f h = ap (λ q. q >>= f) h
@@ -156,47 +153,9 @@ path_at_ok kind n d count path end place keyed t inner more ids key b e h c p k 
     ∙ ap (λ r. r >>= λ content. Ok (roll-PathData (record { ids = numbers (u16_at t.padded 2) (drop 4 t.padded); key = content.0; body = content.1 }))) same
     ∙ ap (λ l. Ok (roll-PathData (record { ids = l; key = key; body = b }))) list
 
-pub path_at_fails : (kind : OperKind) (n d count path end place : ℕ) (keyed : Bool) (t : TlvItem) (inner : List ℕ) (err : PathFault) → n ≡ suc d → 4 + 4 * count ≤ length t.padded
-    → count ≡ u16_at t.padded 2 → path ≡ t.place → keyed ≡ (u16_at t.padded 0 / 2 ^ 15 == 1) → end ≡ end_of t → place ≡ t.place + 8 + 4 * count → inner ≡ drop (4 + 4 * count) t.padded
-    → Fails err (content_by kind d path keyed end place inner) → Fails err (path_at kind n t)
-path_at_fails kind n d count path end place keyed t inner err e h c p k en at i f =
-    subst (Fails err) (sym (path_at_content kind n d t e (omega arith)))
-    (fails_bind err _ _ (subst (Fails err) (content_same kind d count path end place keyed t inner c p k en at i) f))
-
 -- a PATH-DATA where one may stand
 pub or_path : (stray : TlvItem → PathFault) (one : TlvItem → Result PathData PathFault) (t : TlvItem) → t.kind ≡ 272 → path_or stray one t ≡ one t
 or_path stray one t k = ap (λ n. cond (n == 272) (one t) (Err (stray t))) k
 
 pub or_fails : (stray : TlvItem → PathFault) (one : TlvItem → Result PathData PathFault) (t : TlvItem) (e : PathFault) → t.kind ≡ 272 → Fails e (one t) → Fails e (path_or stray one t)
 or_fails stray one t e k f = subst (Fails e) (sym (or_path stray one t k)) f
-
--- a KEYINFO and a body that is none
-pub keyed_fails : (kind : OperKind) (one : TlvItem → Result PathData PathFault) (path end : ℕ) (keyed : Bool) (items : List TlvItem) (fault : Option WireFault) (t : TlvItem) (rest : Tiling TlvItem) (key : Key) (e : PathFault)
-    → Some (Ok t) ≡ next_of items fault → rest ≡ rest_of items fault → is_known t.kind ≡ true → keyed ≡ true → (t.kind == 273) ≡ true → key_at t ≡ Ok key → Fails e (body_in kind one end rest.items rest.fault)
-    → Fails e (content_in kind one path keyed end items fault)
-keyed_fails kind one path end keyed items fault t rest key e n r known k is found f =
-    let p = took items fault t rest n r in
-    let yes = (key_at t >>= λ key. body_in kind one end rest.items rest.fault >>= λ b. Ok (Some key, b)) in
-    let same : content_in kind one path keyed end items fault ≡ (body_in kind one end rest.items rest.fault >>= λ b. Ok (Some key, b)) =
-    ap (λ l. content_in kind one path keyed end l fault) p.0 ∙ ap (λ l. content_in kind one path keyed end (t ∷ rest.items) l) p.1
-    ∙ ap (λ q. content_in kind one path q end (t ∷ rest.items) rest.fault) k
-    ∙ ap (λ q. cond (not q) (Err (faults.UnknownTlv t.place)) (cond (t.kind == 273) yes (Err (faults.KeyFlag (path + 4))))) known
-    ∙ ap (λ q. cond q yes (Err (faults.KeyFlag (path + 4)))) is
-    ∙ ap (λ q. q >>= λ key. body_in kind one end rest.items rest.fault >>= λ b. Ok (Some key, b)) found in
-    subst (Fails e) (sym same) (fails_bind e _ _ f)
-
-pub same_beq : (a b : Bool) → a ≡ true → not (beq a b) ≡ false → b ≡ true
-same_beq true true p q = refl
-same_beq true false p q = cc
-same_beq false b p q = cc
-
-chosen : {A : Type 0} (b : Bool) (x y : A) → b ≡ true → cond b x y ≡ x
-chosen true x y e = refl
-chosen false x y e = cc
-
--- nothing
-pub bare_content : (kind : OperKind) (one : TlvItem → Result PathData PathFault) (path end : ℕ) (items : List TlvItem) (fault : Option WireFault)
-    → None ≡ next_of items fault → takes_nothing kind ≡ true → content_in kind one path false end items fault ≡ Ok (None, Nothing)
-bare_content kind one path end [] None n takes = ap (λ q. q >>= λ b. Ok (None, b)) (chosen (takes_nothing kind) (Ok Nothing) (Err (faults.WrongBody end)) takes)
-bare_content kind one path end [] (Some f) n takes = cc
-bare_content kind one path end (x ∷ xs) fault n takes = cc

@@ -1,5 +1,5 @@
 -- The digits of eight bytes, one by one.
-use Rattle.std.proofs.Common.{◌≡◌, ◌/◌, ◌%◌, ◌++◌, ℕ, List, [], ◌∷◌, length, slice_index, codes, refl, arith, sym, ap, ◌∙◌, append_assoc, ◌+◌, ◌<◌, drop, drop-cons}
+use Rattle.std.proofs.Common.{◌≡◌, ◌/◌, ◌%◌, ◌++◌, ℕ, List, [], ◌∷◌, length, slice_index, refl, arith, sym, ap, ◌∙◌, append_assoc, ◌+◌, ◌<◌, drop, drop-cons}
 use Rattle.std.proofs.lemmas.Grind.{flat_map-append}
 use Rattle.fc_base.specs.Hex.{hex, hex_digit}
 use Rattle.fc_text.specs.Text.{hex_text, full_text}

@@ -1,5 +1,5 @@
 // Frames as text, without the messages that they spell.
-ghost use Rattle.std.specs.Prelude.{◌≡◌, ◌++◌, ◌∷◌, [], length, true, Ok, Some, OnOk, IfOk, IfErr};
+ghost use Rattle.std.specs.Prelude.{◌≡◌, ◌++◌, ◌∷◌, [], length, true, Ok, Some, OnOk, OnErr, IfOk, IfErr};
 ghost use Rattle.fc_msg.specs.Bodies.{body_at};
 ghost use Rattle.fc_msg.specs.Decoding.{IsWithin, Refuses};
 ghost use Rattle.fc_msg.specs.Faults.{fault_of};
@@ -24,13 +24,7 @@ use fc_wire::{Header, Tlvs};
 use std::alloc::Global;
 
 // The lines of a body of a type, whose TLVs go on to an end.
-fn tell_body(
-    alloc: Global,
-    into: &mut Vec<u8>,
-    kind: u8,
-    tlvs: Tlvs,
-    end: usize,
-) -> Result<(), PathFault>
+fn tell_body(into: &mut Vec<u8>, kind: u8, tlvs: Tlvs, end: usize) -> Result<(), PathFault>
     ensures { Tells result (body_at kind end tlvs.entry.items tlvs.entry.fault) content_text into.old.items into.new.items }
 {
     match kind {
@@ -45,8 +39,8 @@ fn tell_body(
             push_number(into, b"  reason ", reason)?;
             Ok(())
         }
-        SETUP => tell_selects(alloc, into, kind, tlvs),
-        _ => tell_some_selects(alloc, into, kind, tlvs, end),
+        SETUP => tell_selects(into, kind, tlvs),
+        _ => tell_some_selects(into, kind, tlvs, end),
     }
 }
 
@@ -72,8 +66,8 @@ fn head_of(header: &Header) -> Message
     }
 }
 
-// Appends the text of the message in bytes.
-fn tell(alloc: Global, bytes: &[u8], into: &mut Vec<u8>) -> Result<(), MsgFault>
+// Appends the text of the message in bytes. After an `Err` some of it may stand there.
+fn tell(bytes: &[u8], into: &mut Vec<u8>) -> Result<(), MsgFault>
     ensures shown { IfOk result (λ _. (m : Spelled) × (message_in bytes.now ≡ Some m) × (into.new.items ≡ into.old.items ++ message_text m)) }
     ensures refused { IfErr result (λ fault. Refuses (fault_of bytes.now) fault) }
 {
@@ -86,24 +80,72 @@ fn tell(alloc: Global, bytes: &[u8], into: &mut Vec<u8>) -> Result<(), MsgFault>
         Err(_) => return Err(MsgFault::Memory),
     }
     let tlvs = Tlvs::over(&bytes[24..], 24);
-    match tell_body(alloc, into, header.kind, tlvs, bytes.len()) {
+    match tell_body(into, header.kind, tlvs, bytes.len()) {
         Ok(()) => Ok(()),
         Err(fault) => Err(MsgFault::from(fault)),
     }
 }
 
+// The same where nothing stands before the text. After an `Err` nothing stands there again.
+fn tell_alone(bytes: &[u8], into: &mut Vec<u8>) -> Result<(), MsgFault>
+    requires { into.old.items ≡ [] }
+    ensures shown { IfOk result (λ _. (m : Spelled) × (message_in bytes.now ≡ Some m) × (into.new.items ≡ into.old.items ++ message_text m)) }
+    ensures refused { IfErr result (λ fault. Refuses (fault_of bytes.now) fault) }
+    ensures err { OnErr result (into.new.items ≡ into.old.items) }
+{
+    match tell(bytes, into) {
+        Ok(()) => Ok(()),
+        Err(fault) => {
+            into.clear();
+            Err(fault)
+        }
+    }
+}
+
+// The same behind whatever stands before the text, which is made apart. After an `Err` nothing has changed.
+fn tell_behind(alloc: Global, bytes: &[u8], into: &mut Vec<u8>) -> Result<(), MsgFault>
+    ensures shown { IfOk result (λ _. (m : Spelled) × (message_in bytes.now ≡ Some m) × (into.new.items ≡ into.old.items ++ message_text m)) }
+    ensures refused { IfErr result (λ fault. Refuses (fault_of bytes.now) fault) }
+    ensures err { OnErr result (into.new.items ≡ into.old.items) }
+{
+    let mut text = Vec::new(alloc);
+    match tell_alone(bytes, &mut text) {
+        Ok(()) => {}
+        Err(fault) => return Err(fault),
+    }
+    match into.extend_from_slice(text.as_slice()) {
+        Ok(()) => Ok(()),
+        Err(_) => Err(MsgFault::Memory),
+    }
+}
+
+// The same in either case.
+#[inline(always)]
+fn tell_whole(alloc: Global, bytes: &[u8], into: &mut Vec<u8>) -> Result<(), MsgFault>
+    ensures shown { IfOk result (λ _. (m : Spelled) × (message_in bytes.now ≡ Some m) × (into.new.items ≡ into.old.items ++ message_text m)) }
+    ensures refused { IfErr result (λ fault. Refuses (fault_of bytes.now) fault) }
+    ensures err { OnErr result (into.new.items ≡ into.old.items) }
+{
+    if into.is_empty() {
+        return tell_alone(bytes, into);
+    }
+    tell_behind(alloc, bytes, into)
+}
+
 /// Appends the text of the message that bytes spell, or tells the first rule that they break, with its place in bytes from
-/// the start of them. Each part is appended as soon as it is read, so that no more than one PATH-DATA is held. After an
-/// `Err` some of the text may stand there. `read_text` reads the text as that message again, unless the message has grown too
+/// the start of them (RFC 5810, sections 6 and 7; the text, the rules' order and the places are this profile's own). Each part
+/// is appended as soon as it is read, so that nothing of the message is held but its text. After an `Err` nothing has
+/// changed. Where `into` is empty the text is made in its place, and else apart. `read_text` reads the text as that message again, unless the message has grown too
 /// long to be encoded: its canonical bytes may be longer than these by padding that lengths count.
 pub fn show_bytes(alloc: Global, bytes: &[u8], into: &mut Vec<u8>) -> Result<(), MsgFault>
     ensures shown { IfOk result (λ _. (m : Spelled) × Spells m bytes.now × (into.new.items ≡ into.old.items ++ message_text m)) }
     ensures refused { IfErr result (λ fault. Refuses (fault_of bytes.now) fault) }
     ensures within { IfErr result (λ fault. IsWithin (length bytes.now) fault) }
+    ensures err { OnErr result (into.new.items ≡ into.old.items) }
     ensures again { (m : Spelled) → Spells m bytes.now → message_fits m ≡ true → text_in (message_text m) ≡ Ok (m ∷ []) }
 {
     are_bytes(bytes);
     first_broken_rule_is_told();
     decoded_text_is_read();
-    tell(alloc, bytes, into)
+    tell_whole(alloc, bytes, into)
 }

@@ -1,10 +1,12 @@
 // Text to bytes, without the messages that it holds.
-ghost use Rattle.std.specs.Prelude.{◌≡◌, ◌<◌, ◌++◌, List, length, true, false, Ok, OnOk, OnErr, IfErr};
+ghost use Rattle.std.specs.Prelude.{◌≡◌, ◌<◌, ◌⊎◌, ◌++◌, List, length, true, false, Ok, OnOk, OnErr, IfErr};
 ghost use Rattle.std.specs.List.{flat_map};
 ghost use Rattle.fc_msg.specs.Messages.{canonical};
 ghost use Rattle.fc_msg.specs.declared.message.Message.{Message as Spelled};
+ghost use Rattle.fc_text.specs.FirstMisfit.{FirstMisfit, FitsMessages, IsWithin, TooLongAt};
 ghost use Rattle.fc_text.specs.Making.{Makes};
-ghost use Rattle.fc_text.specs.TextPlaces.{Fails};
+ghost use Rattle.fc_text.specs.TextGrammar.{SpellsText};
+ghost use Rattle.fc_text.specs.TextPlaces.{Fails, RefusedAt};
 ghost use Rattle.fc_text.specs.TextReading.{many_at, message_at, text_in};
 
 use crate::TextFault;
@@ -16,9 +18,20 @@ use fc_base::WriteFault;
 use fc_msg::Encoder;
 use std::alloc::Global;
 
-/// Appends the canonical bytes of the messages of a text, or refuses it as `read_text` does. Each message is appended as
-/// soon as it is read, so that no more than one is held. After an `Err` nothing has changed.
+/// Appends the canonical bytes of the messages of a text in the layout of `show` (this profile's own), or refuses it as
+/// `read_text` does, by line and column, both from 1. Each message is appended as soon as it is read, so that no more than one
+/// is held. After an `Err` nothing has changed.
 pub fn make_bytes(alloc: Global, text: &[u8], into: &mut Vec<u8>) -> Result<(), TextFault>
+    ensures exact { Makes result (text_in text.now) into.old.items into.new.items }
+    ensures spelled { OnOk result ((ms : List Spelled) × (text_in text.now ≡ Ok ms) × SpellsText ms text.now × (into.new.items ≡ into.old.items ++ flat_map canonical ms)) }
+    ensures only { (ms : List Spelled) → SpellsText ms text.now → Makes result (Ok ms) into.old.items into.new.items }
+    ensures misfit { RefusedAt (λ p. FirstMisfit FitsMessages p text.now ⊎ TooLongAt p text.now) result }
+    ensures within { RefusedAt (λ p. IsWithin p text.now) result }
+{
+    make_whole(alloc, text, into)
+}
+
+fn make_whole(alloc: Global, text: &[u8], into: &mut Vec<u8>) -> Result<(), TextFault>
     ensures { Makes result (text_in text.now) into.old.items into.new.items }
 {
     let start = into.len();

@@ -1,5 +1,5 @@
 // Messages to text.
-ghost use Rattle.std.specs.Prelude.{◌≡◌, ◌++◌, ◌+◌, OnOk, IfOk};
+ghost use Rattle.std.specs.Prelude.{◌≡◌, ◌++◌, ◌+◌, Some, OnOk, OnErr, IfOk};
 ghost use Rattle.std.specs.List.{flat_map};
 ghost use Rattle.fc_text.specs.Text.{body_text, code_text, content_text, fields_text, full_text, head_text, id_text, ilv_text, indent, key_text, message_text, number_text, oper_line, oper_text, path_line, path_text, response_text, select_line, select_text, selects_text, sparse_text};
 
@@ -13,12 +13,23 @@ use fc_msg::{Message, MsgBody};
 use fc_path::{Body, Key, Oper, PathData, Select};
 use fc_wire::Ilv;
 
-/// Appends the text of the message: a line with its type, sender, addressee, correlator and flags, whose free bits are
-/// zero, and the lines of its body, each level of which is indented by two spaces more. After an `Err` some of the text
-/// may stand there.
-#[tactic(auto, unfolding(crate::specs::Text::message_text))]
+/// Appends the text of the message (this profile's own): a line with its type, sender, addressee, correlator and flags, whose
+/// free bits are zero, and the lines of its body, each level of which is indented by two spaces more. After an `Err` nothing
+/// has changed.
 pub fn show(message: &Message, into: &mut Vec<u8>) -> Result<(), Memory>
     ensures ok { OnOk result (into.new.items ≡ into.old.items ++ message_text message.now) }
+    ensures err { OnErr result (into.new.items ≡ into.old.items) }
+{
+    let mut text = Vec::new(*into.allocator());
+    push_message(&mut text, message)?;
+    into.extend_from_slice(text.as_slice())?;
+    Ok(())
+}
+
+// The text of the message. After an `Err` some of it may stand there.
+#[tactic(auto, unfolding(crate::specs::Text::message_text))]
+fn push_message(into: &mut Vec<u8>, message: &Message) -> Result<(), Memory>
+    ensures { OnOk result (into.new.items ≡ into.old.items ++ message_text message.now) }
 {
     push_head(into, message)?;
     push_content(into, &message.body)
@@ -195,6 +206,10 @@ pub fn push_indent(into: &mut Vec<u8>, level: usize) -> Result<(), Memory>
         into.extend_from_slice(b"        ")?;
         return Ok(());
     }
+    if level == 5 {
+        into.extend_from_slice(b"          ")?;
+        return Ok(());
+    }
     push_spaces(into, level)
 }
 
@@ -296,13 +311,19 @@ fn push_key(into: &mut Vec<u8>, key: &Option<Key>) -> Result<(), Memory>
 {
     match key {
         None => Ok(()),
-        Some(key) => {
-            into.extend_from_slice(b" key ")?;
-            push_decimal(into, key.ident)?;
-            into.push(b' ')?;
-            push_word(into, key.value.as_slice())
-        }
+        Some(key) => push_key_words(into, key.ident, key.value.as_slice()),
     }
+}
+
+/// The words of a key in the line of a PATH-DATA.
+#[inline(always)]
+pub fn push_key_words(into: &mut Vec<u8>, ident: u32, value: &[u8]) -> Result<(), Memory>
+    ensures { OnOk result (into.new.items ≡ into.old.items ++ key_text (Some (record { ident = ident; value = value.now }))) }
+{
+    into.extend_from_slice(b" key ")?;
+    push_decimal(into, ident)?;
+    into.push(b' ')?;
+    push_word(into, value)
 }
 
 /// The line of a whole value.
@@ -400,15 +421,23 @@ fn push_ilvs(into: &mut Vec<u8>, level: usize, ilvs: &[Ilv]) -> Result<(), Memor
     Ok(())
 }
 
-#[tactic(auto, unfolding(crate::specs::Text::ilv_text))]
 fn push_ilv(into: &mut Vec<u8>, level: usize, ilv: &Ilv) -> Result<(), Memory>
     ensures { OnOk result (into.new.items ≡ into.old.items ++ ilv_text level ilv.now) }
 {
+    push_part(into, level, ilv.ident, ilv.value.as_slice())
+}
+
+/// The line of an ILV.
+#[inline(always)]
+#[tactic(auto, unfolding(crate::specs::Text::ilv_text))]
+pub fn push_part(into: &mut Vec<u8>, level: usize, ident: u32, value: &[u8]) -> Result<(), Memory>
+    ensures { OnOk result (into.new.items ≡ into.old.items ++ ilv_text level (record { ident = ident; value = value.now })) }
+{
     push_indent(into, level)?;
     into.extend_from_slice(b"ilv ")?;
-    push_decimal(into, ilv.ident)?;
+    push_decimal(into, ident)?;
     into.push(b' ')?;
-    push_word(into, ilv.value.as_slice())?;
+    push_word(into, value)?;
     into.push(b'\n')?;
     Ok(())
 }

@@ -76,8 +76,11 @@ fn write_names(to: &mut TlvWriter, class: u32, instance: u32) -> Result<(), Memo
 }
 
 impl Shortcut {
-    /// With no room yet.
-    pub fn new(alloc: Global) -> Shortcut {
+    /// With no room yet: nothing is written, and no IDs and no value are held.
+    pub fn new(alloc: Global) -> Shortcut
+        ensures empty { result.writer ≡ writing [] [] }
+        ensures held { (result.ids.items ≡ []) × (result.value.items ≡ []) }
+    {
         Shortcut {
             writer: TlvWriter::new(alloc),
             ids: Vec::new(alloc),

@@ -1,5 +1,5 @@
 // Reads the operations of messages and appends the text of each part as soon as it is read.
-ghost use Rattle.std.specs.Prelude.{◌≡◌, ◌≤◌, ◌<◌, ◌+◌, ◌%◌, ◌^◌, ◌++◌, length, OnOk};
+ghost use Rattle.std.specs.Prelude.{◌≡◌, ◌≤◌, ◌<◌, ◌+◌, ◌%◌, ◌^◌, length};
 ghost use Rattle.std.specs.List.{flat_map};
 ghost use Rattle.fc_path.specs.Stray.{misplaced as is_misplaced};
 ghost use Rattle.fc_path.specs.Reading.{each_in, some_in, path_or, path_at, oper_at, operation_at, select_at};
@@ -15,7 +15,6 @@ use fc_path::{
     is_known_in_select, misplaced, operation_for, read_only_outcome,
 };
 use fc_wire::{Tlv, Tlvs, WireFault, read_u32};
-use std::alloc::Global;
 
 // The PATH-DATA of an operation.
 fn tell_path(into: &mut Vec<u8>, kind: OperKind, tlv: &Tlv) -> Result<(), PathFault>
@@ -28,12 +27,7 @@ fn tell_path(into: &mut Vec<u8>, kind: OperKind, tlv: &Tlv) -> Result<(), PathFa
 }
 
 // All PATH-DATA of an operation that are left.
-fn tell_more_paths(
-    alloc: Global,
-    into: &mut Vec<u8>,
-    kind: OperKind,
-    mut tlvs: Tlvs,
-) -> Result<(), PathFault>
+fn tell_more_paths(into: &mut Vec<u8>, kind: OperKind, mut tlvs: Tlvs) -> Result<(), PathFault>
     ensures { Tells result (each_in (path_or is_misplaced (path_at kind 16)) tlvs.entry.items tlvs.entry.fault) (flat_map (λ path. path_text path 3)) into.old.items into.new.items }
 {
     'items: while let Some(next) = tlvs.next() {
@@ -47,7 +41,6 @@ fn tell_more_paths(
 
 // The PATH-DATA of an operation with an end, of which there is at least one.
 fn tell_paths(
-    alloc: Global,
     into: &mut Vec<u8>,
     kind: OperKind,
     mut tlvs: Tlvs,
@@ -60,38 +53,28 @@ fn tell_paths(
         Some(Err(fault)) => Err(PathFault::Wire(fault)),
         Some(Ok(tlv)) => {
             tell_path(into, kind, &tlv)?;
-            tell_more_paths(alloc, into, kind, tlvs)
+            tell_more_paths(into, kind, tlvs)
         }
     }
 }
 
 // The PATH-DATA of an operation, below its line.
-fn tell_paths_of(
-    alloc: Global,
-    into: &mut Vec<u8>,
-    kind: OperKind,
-    tlv: &Tlv,
-) -> Result<(), PathFault>
+fn tell_paths_of(into: &mut Vec<u8>, kind: OperKind, tlv: &Tlv) -> Result<(), PathFault>
     ensures { Tells result (operation_at (Paths kind) tlv.now) oper_text into.old.items into.new.items }
 {
     let padded = tlv.padded();
     let place = tlv.place + 4;
     let end = place + padded.len();
     push_line(into, operation_name(kind).as_bytes())?;
-    tell_paths(alloc, into, kind, Tlvs::over(padded, place), end)
+    tell_paths(into, kind, Tlvs::over(padded, place), end)
 }
 
 // An operation.
-fn tell_operation(
-    alloc: Global,
-    into: &mut Vec<u8>,
-    operation: Operation,
-    tlv: &Tlv,
-) -> Result<(), PathFault>
+fn tell_operation(into: &mut Vec<u8>, operation: Operation, tlv: &Tlv) -> Result<(), PathFault>
     ensures { Tells result (operation_at operation tlv.now) oper_text into.old.items into.new.items }
 {
     match operation {
-        Operation::Paths(kind) => tell_paths_of(alloc, into, kind, tlv),
+        Operation::Paths(kind) => tell_paths_of(into, kind, tlv),
         Operation::Commit => {
             if !tlv.body.is_empty() {
                 return Err(PathFault::WrongBody { place: tlv.place });
@@ -118,12 +101,12 @@ fn tell_operation(
 }
 
 // A TLV inside an LFBselect.
-fn tell_oper(alloc: Global, into: &mut Vec<u8>, message: u8, tlv: &Tlv) -> Result<(), PathFault>
+fn tell_oper(into: &mut Vec<u8>, message: u8, tlv: &Tlv) -> Result<(), PathFault>
     ensures { Tells result (oper_at message tlv.now) oper_text into.old.items into.new.items }
 {
     let place = tlv.place;
     match operation_for(message, tlv.kind) {
-        Some(operation) => tell_operation(alloc, into, operation, tlv),
+        Some(operation) => tell_operation(into, operation, tlv),
         None => {
             if is_known_in_select(tlv.kind) {
                 Err(PathFault::WrongBody { place })
@@ -135,46 +118,34 @@ fn tell_oper(alloc: Global, into: &mut Vec<u8>, message: u8, tlv: &Tlv) -> Resul
 }
 
 // All operations of an LFBselect that are left.
-fn tell_more_opers(
-    alloc: Global,
-    into: &mut Vec<u8>,
-    message: u8,
-    mut tlvs: Tlvs,
-) -> Result<(), PathFault>
+fn tell_more_opers(into: &mut Vec<u8>, message: u8, mut tlvs: Tlvs) -> Result<(), PathFault>
     ensures { Tells result (each_in (oper_at message) tlvs.entry.items tlvs.entry.fault) (flat_map oper_text) into.old.items into.new.items }
 {
     'items: while let Some(next) = tlvs.next() {
         match next {
             Err(fault) => return Err(PathFault::Wire(fault)),
-            Ok(tlv) => tell_oper(alloc, into, message, &tlv)?,
+            Ok(tlv) => tell_oper(into, message, &tlv)?,
         }
     }
     Ok(())
 }
 
 // The operations of an LFBselect with an end, of which there is at least one.
-fn tell_opers(
-    alloc: Global,
-    into: &mut Vec<u8>,
-    message: u8,
-    mut tlvs: Tlvs,
-    end: usize,
-) -> Result<(), PathFault>
+fn tell_opers(into: &mut Vec<u8>, message: u8, mut tlvs: Tlvs, end: usize) -> Result<(), PathFault>
     ensures { Tells result (some_in (oper_at message) end tlvs.entry.items tlvs.entry.fault) (flat_map oper_text) into.old.items into.new.items }
 {
     match tlvs.next() {
         None => Err(PathFault::WrongBody { place: end }),
         Some(Err(fault)) => Err(PathFault::Wire(fault)),
         Some(Ok(tlv)) => {
-            tell_oper(alloc, into, message, &tlv)?;
-            tell_more_opers(alloc, into, message, tlvs)
+            tell_oper(into, message, &tlv)?;
+            tell_more_opers(into, message, tlvs)
         }
     }
 }
 
 // An LFBselect, whose padded value is at hand.
 fn tell_select_of(
-    alloc: Global,
     into: &mut Vec<u8>,
     message: u8,
     tlv: &Tlv,
@@ -198,31 +169,26 @@ fn tell_select_of(
     let place = tlv.place;
     let end = place + 4 + padded.len();
     push_select_line(into, class, instance)?;
-    tell_opers(alloc, into, message, Tlvs::over(inner, place + 12), end)
+    tell_opers(into, message, Tlvs::over(inner, place + 12), end)
 }
 
 // An LFBselect.
-fn tell_select(alloc: Global, into: &mut Vec<u8>, message: u8, tlv: &Tlv) -> Result<(), PathFault>
+fn tell_select(into: &mut Vec<u8>, message: u8, tlv: &Tlv) -> Result<(), PathFault>
     ensures { Tells result (select_at message tlv.now) select_text into.old.items into.new.items }
 {
     let padded = tlv.padded();
     are_bytes(padded);
-    tell_select_of(alloc, into, message, tlv, padded)
+    tell_select_of(into, message, tlv, padded)
 }
 
 /// Appends the lines of all LFBselects of a message of a type that are left.
-pub fn tell_selects(
-    alloc: Global,
-    into: &mut Vec<u8>,
-    message: u8,
-    mut tlvs: Tlvs,
-) -> Result<(), PathFault>
+pub fn tell_selects(into: &mut Vec<u8>, message: u8, mut tlvs: Tlvs) -> Result<(), PathFault>
     ensures { Tells result (each_in (select_at message) tlvs.entry.items tlvs.entry.fault) selects_text into.old.items into.new.items }
 {
     'items: while let Some(next) = tlvs.next() {
         match next {
             Err(fault) => return Err(PathFault::Wire(fault)),
-            Ok(tlv) => tell_select(alloc, into, message, &tlv)?,
+            Ok(tlv) => tell_select(into, message, &tlv)?,
         }
     }
     Ok(())
@@ -230,7 +196,6 @@ pub fn tell_selects(
 
 /// Appends the lines of the LFBselects of a message of a type with an end, of which there is at least one.
 pub fn tell_some_selects(
-    alloc: Global,
     into: &mut Vec<u8>,
     message: u8,
     mut tlvs: Tlvs,
@@ -242,8 +207,8 @@ pub fn tell_some_selects(
         None => Err(PathFault::WrongBody { place: end }),
         Some(Err(fault)) => Err(PathFault::Wire(fault)),
         Some(Ok(tlv)) => {
-            tell_select(alloc, into, message, &tlv)?;
-            tell_selects(alloc, into, message, tlvs)
+            tell_select(into, message, &tlv)?;
+            tell_selects(into, message, tlvs)
         }
     }
 }

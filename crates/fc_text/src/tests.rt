@@ -93,6 +93,12 @@ fn each_kind_of_line_is_shown(rt: HostRuntime) -> Result<(), Fail> {
             .ok()
             .ok_or("a text")?;
         assert_eq!(rt; appended.as_slice(), wanted.as_bytes(), "{digits}");
+        show_bytes(alloc, bytes.as_slice(), &mut text)
+            .ok()
+            .ok_or("a text")?;
+        show(&message, &mut text).ok().ok_or("memory")?;
+        let thrice = format!(in alloc; "{wanted}{wanted}{wanted}")?;
+        assert_eq!(rt; text.as_slice(), thrice.as_bytes(), "{digits}");
     }
     Ok(())
 }

@@ -1,4 +1,4 @@
-use Rattle.std.proofs.Common.{◌++◌, [], ◌∷◌, sym, ap, ◌∙◌, append_assoc, arith}
+use Rattle.std.proofs.Common.{◌++◌, ◌∷◌, sym, ap, ◌∙◌, arith}
 use Rattle.fc_text.proofs.Decimals.{one_digit, two_digits, three_digits}
 use Rattle.fc_text.proofs.decimal.push_id.Goals as goal
 

@@ -1,6 +1,5 @@
-use Rattle.std.proofs.Common.{◌≡◌, ◌++◌, length, Ok}
+use Rattle.std.proofs.Common.{◌≡◌, length}
 use Rattle.std.specs.List.{flat_map}
-use Rattle.fc_path.specs.Stray.{◌>>=◌}
 use Rattle.fc_path.specs.Reading.{sparse_in}
 use Rattle.fc_text.specs.Appending.{told}
 use Rattle.fc_text.specs.Text.{ilv_text}
