@@ -421,7 +421,7 @@ module _ (net : Network) (steps : List Step) (k : ℕ) (m : Master) (q0 : ℕ) (
     pub smooth_round : (cs : ℕ → Circumstance) → ((i : ℕ) → Smooth (cs i)) → (o : ℕ) × Completes w (arrive cs (length w.sent + 1) o (happens w (Begin k ps changes scopes))) k m ps changes o
     smooth_round cs smooth =
         let r = round (λ (v : World). v) (next_world w k m ps changes scopes ground once cs smooth) (no_more w k m ps changes scopes ground once cs smooth) (world_passes w k m ps changes scopes ground once cs smooth) (world_steps w k m ps changes scopes ground once cs smooth)
-            (happens w (Begin k ps changes scopes)) refl (λ after e. tt) in
+        (happens w (Begin k ps changes scopes)) refl (λ after e. tt) in
         (r.0, subst (λ v. Completes w v k m ps changes r.0) (arrived_is w k m ps changes scopes ground once cs smooth r.0 (length w.sent + 1) (happens w (Begin k ps changes scopes))) r.1)
 
 pub clean_round_law : (net : Network) (steps : List Step) → CleanRound (run steps (first_world net))

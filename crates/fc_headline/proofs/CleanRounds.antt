@@ -2,30 +2,28 @@
 use Rattle.std.proofs.Common.{◌≡◌, ℕ, zero, suc, ◌+◌, ◌≤◌, ◌==◌, nat_le, Bool, true, false, cond, List, [], ◌∷◌, ◌++◌, append_assoc, append-nil, length, slice_get, Option, Some, None, option_map, inl, inr, ⊎_elim, refl, sym, ap, ◌∙◌, subst, arith, eqb-true, eq-eqb}
 use Rattle.std.proofs.Math.Path.{fun_ext}
 use Rattle.std.specs.FinMap.{contains_key, get}
-use Rattle.std.specs.List.{AllByRecursion}
 use Rattle.fc_base.specs.Ids.{Txn}
 use Rattle.fc_modes.specs.declared.mode.Mode.TheVariants.{AllOrNone}
-use Rattle.fc_agreement.specs.CleanRound.{Smooth, Idle, Able, Completes as BareCompletes, is_notice, spoken_count, round_count}
-use Rattle.fc_agreement.proofs.Calm.{CalmWorld}
-use Rattle.fc_agreement.proofs.Round.{Phase, Asking, Told, Ready, Ending, Ended, Done, flies, Ground as Grounded, Going, ElIn, Stands, JobIn, message_of, body}
+use Rattle.fc_agreement.specs.CleanRound.{Smooth, Able, Completes as BareCompletes, is_notice, spoken_count, round_count}
+use Rattle.fc_agreement.proofs.Round.{Phase, Asking, Told, Ready, Ending, Ended, Done, flies, Ground as Grounded, Going, Stands, message_of, body}
 use Rattle.fc_agreement.proofs.RoundElements.{Next}
 use Rattle.fc_agreement.proofs.RoundRuns.{Once, Passes, Steps, arrived, by_phase, number_of, notice_arrives}
 use Rattle.fc_agreement.proofs.RoundStart.{ground, once, round}
 use Rattle.fc_agreement.proofs.Taking.{at_count, judge_next}
-use Rattle.fc_headline.specs.CleanRound.{changes_to, IdleFor, MayBegin, delivers_from, Completes, CleanRound}
-use Rattle.fc_headline.proofs.Folded.{FoldsIn, new_folds}
+use Rattle.fc_headline.specs.CleanRound.{IdleFor, MayBegin, delivers_from, Completes, CleanRound}
+use Rattle.fc_headline.proofs.Folded.{new_folds}
 use Rattle.fc_headline.proofs.Likes.{viewed_append, as_sent, Like, Likes, AllGood, sender_same, request_at, delivers_like, begin_like, run_likes, first_likes}
 use Rattle.fc_headline.proofs.Served.{still_there, outs_spelled, Served, Serves, smooth_of, takes_is, circumstance_is, sot_serves, mot_serves, eot_serves, trcomp_serves}
 use Rattle.fc_headline.proofs.Worlds.{in_whole, AllFold, run_all}
-use Rattle.fc_machine.specs.ElementMachine.{Arrived, Out, Step as MachineStep, acts, heard_from, is_ce, step, takes}
+use Rattle.fc_machine.specs.ElementMachine.{Arrived, Step as MachineStep, acts, heard_from, step, takes}
 use Rattle.fc_machine.specs.ElementState.{Element, bares, tx}
 use Rattle.fc_machine.specs.Ground.{Ground, Lawful}
 use Rattle.fc_machine.specs.Messages.{Configuring, Ask_held, Ask_one, Ask_other, Told_held, Told_one, Told_unread, Told_other, Message, Setup, Beat, Response, Says, Notice, Accepted, Teardown, Beat_down, Query, Configure}
-use Rattle.fc_machine.specs.Trace.{Fact, bare_facts}
+use Rattle.fc_machine.specs.Trace.{bare_facts}
 use Rattle.fc_machine.specs.Views.{config_body, view, peers_of, circumstance_of}
 use Rattle.fc_machine.specs.Transactions.{executes}
 use Rattle.fc_machine.specs.WorldSteps.{Parcel, is_down, Spoke, Masters, World, Step, Deliver, Begin, first_world, parcels, numbered, sender, with_step, with_spoke, with_begun, to_master, delivers, begin_at, begun_by, happens, run, viewed, MastersFit, Fitting, SpelledAs, SpelledMessage, Spelled, MastersSpell}
-use Rattle.fc_protocol.specs.Collections.{In, among, put}
+use Rattle.fc_protocol.specs.Collections.{among, put}
 use Rattle.fc_protocol.specs.ElementMachine.{Circumstance, ElementState, admits, takes_part, rises_above}
 use Rattle.fc_protocol.specs.Fence.{judge}
 use Rattle.fc_protocol.specs.Jobs.{Job}
@@ -33,13 +31,12 @@ use Rattle.fc_protocol.specs.MasterMachine.{Master, begin_refusal, next_txn}
 use Rattle.fc_protocol.specs.Messages as said
 use Rattle.fc_protocol.specs.Messages.{Stamp, Body, Claim, Sot, Mot, Eot, Trcomp, Abt, Floor, Malformed, Plain, Ask, Ask_record, is_query, claim_of, Request, Reply, Other_up, Other_down, Sent, sent}
 use Rattle.fc_protocol.specs.Records.{state_of, clashes, is_packed}
-use Rattle.fc_protocol.specs.Floors.{is_below}
 use Rattle.fc_protocol.specs.Scopes.{Scope, is_scope}
 use Rattle.fc_protocol.specs.Trace.{Settled_at}
 use Rattle.fc_protocol.specs.WorldSteps as steps
 use Rattle.fc_protocol.specs.WorldSteps.{Network}
 use Rattle.fc_protocol.specs.declared.states.Decision.TheVariants.{Complete}
-use Rattle.fc_protocol.specs.declared.states.TxnState.TheVariants.{Started, Prepared, Completed}
+use Rattle.fc_protocol.specs.declared.states.TxnState.TheVariants.{Started, Completed}
 use Rattle.fc_protocol.specs.declared.verdict.Verdict.TheVariants.{Next as IsNext}
 use Rattle.fc_protocol.proofs.Basics.{AllOf, all_append, cond_true, cond_false, and_true, both}
 use Rattle.fc_protocol.proofs.Puts.{put_here}
@@ -366,8 +363,7 @@ module _ {Config Op Subs M P C : Type 0} (g : Ground Config Op Subs) (law : Lawf
         let r = next_seen v before (s ∷ rest) z i in
         let same : bare (next v i) ≡ bare v = r.1 ∙ notice_arrives (bare v) r.0 i s y.calm (number_of w k c ps counts scopes (bare v) before s rest ph i y e) u in
         let up = up_is v before s rest z i e d in
-        let sent_same : viewed (to_master g ms v q.element q.controller q.message (v.masters q.controller)).sent ≡ viewed v.sent = ap (λ n. viewed n.sent) (sym up) ∙ ap (λ (n : steps.World). n.sent) same in
-        (
+        let sent_same : viewed (to_master g ms v q.element q.controller q.message (v.masters q.controller)).sent ≡ viewed v.sent = ap (λ n. viewed n.sent) (sym up) ∙ ap (λ (n : steps.World). n.sent) same in (
           same,
           subst (λ n. Holds n (before ++ s ∷ []) rest) (sym up)
               (heard_holds v before s rest rest z q.element q.controller q.message (v.masters q.controller) refl (subst (λ n. AllGood g ms Good fit n.masters) up (next_good v before (s ∷ rest) z i)) (subst (AllFold g law ms opening) up (next_folds v before (s ∷ rest) z i))
@@ -432,13 +428,13 @@ module _ {Config Op Subs M P C : Type 0} (g : Ground Config Op Subs) (law : Lawf
           let stand = y.stand p a in
           let here : sender g ms v k ≡ source = y.network ∙ sym source_is in
           let next_is : judge el.epoch el.master el.sequence source m.stamp (claim_of m.body) ≡ IsNext =
-              ap (λ t. judge el.epoch el.master el.sequence source t (claim_of m.body)) (ask.2 ∙ ap (λ o. at_count o n) (sym stand.epoch)) ∙ ap (λ o. judge el.epoch el.master el.sequence source (at_count el.epoch n) o) (ap claim_of body_is ∙ nc)
-              ∙ judge_next el.epoch el.master el.sequence source n (ap (λ o. o == 0) stand.epoch ∙ base.epoch) (source_is ∙ sym stand.master) count in
+          ap (λ t. judge el.epoch el.master el.sequence source t (claim_of m.body)) (ask.2 ∙ ap (λ o. at_count o n) (sym stand.epoch)) ∙ ap (λ o. judge el.epoch el.master el.sequence source (at_count el.epoch n) o) (ap claim_of body_is ∙ nc)
+          ∙ judge_next el.epoch el.master el.sequence source n (ap (λ o. o == 0) stand.epoch ∙ base.epoch) (source_is ∙ sym stand.master) count in
           let known = may.controller in
           let heard = (z.at p a).associated in
           let does_now = acts g p later m AllOrNone m.body in
           let smooth : Smooth (circumstance_of g p el k source (Configure m)) =
-              subst Smooth (sym (circumstance_is g p k source el m fits known heard next_is)) (smooth_of g later m m.body (executes g p later m AllOrNone).shown (peers_of (get later.associations later.ce) does_now.notices) does_now fits.ack does.loud does.instances does.succeeds) in
+          subst Smooth (sym (circumstance_is g p k source el m fits known heard next_is)) (smooth_of g later m m.body (executes g p later m AllOrNone).shown (peers_of (get later.associations later.ce) does_now.notices) does_now fits.ack does.loud does.instances does.succeeds) in
           let whole = parcel_is q p k (Configure m) (ap (λ (t : Sent). t.element) q_is) (ap (λ (t : Sent). t.controller) q_is) ask.1 in
           let u = with_step g ms v p (step g p el (Arrived k (sender g ms v k) (Configure m))) in
           let to : next v i ≡ u = ap (delivers g ms v) (the_first v before s rest z i e ∙ ap Some whole) in
@@ -447,7 +443,7 @@ module _ {Config Op Subs M P C : Type 0} (g : Ground Config Op Subs) (law : Lawf
           let smooth_here : Smooth d = subst (λ o. Smooth (circumstance_of g p el k o (Configure m))) (sym here) smooth in
           let at = request_at g ms v (bare v) p k (Configure m) m.stamp (config_body m.body) (like_itself g ms v) refl in
           let same : steps.happens (bare v) (steps.Deliver i d) ≡ steps.delivered (bare v) d p k (Request m.stamp (config_body m.body)) =
-              ap (steps.delivers (bare v) d) number ∙ ap (λ t. steps.delivers (bare v) d (Some t)) is ∙ ap (steps.delivered (bare v) d p k) (ap (λ t. Request t b) (sym ask.2) ∙ ap (Request m.stamp) (sym ask.3)) in
+          ap (steps.delivers (bare v) d) number ∙ ap (λ t. steps.delivers (bare v) d (Some t)) is ∙ ap (steps.delivered (bare v) d p k) (ap (λ t. Request t b) (sym ask.2) ∙ ap (Request m.stamp) (sym ask.3)) in
           let seen : bare (next v i) ≡ steps.happens (bare v) (steps.Deliver i d) = ap bare to ∙ like_is g ms u _ at ∙ sym same in
           let first = by_phase w k c ps counts scopes (bare v) before s rest ph i d (record { ground = base; going = y; smooth = smooth_here; number = number }) p a h eh fl se in
           let now : Next w k c ps counts scopes (bare (next v i)) (before ++ s ∷ []) s ph = subst (λ o. Next w k c ps counts scopes o (before ++ s ∷ []) s ph) (sym seen) first in
@@ -462,8 +458,7 @@ module _ {Config Op Subs M P C : Type 0} (g : Ground Config Op Subs) (law : Lawf
           let others : (o : ℕ) → among o ps ≡ true → Has u o = λ o b. ⊎_elim (λ t. subst (Has u) (sym (eqb-true o p t)) mine) (λ t. let h = z.at o b in record {
             associated = put_some (λ r (n : Element Config Op Subs). contains_key n.associations source ≡ true) v.at p _ o (λ r. absurd (apart o p t r)) (λ _. h.associated);
             served = put_some (λ r (n : Element Config Op Subs). Served g x (scopes o) (ms.change plan o) (start.at o).settled (c.at o).last n.sequence n.settled n.records) v.at p _ o (λ r. absurd (apart o p t r)) (λ _. h.served);
-          }) (both (o == p)) in
-          (
+          }) (both (o == p)) in (
             now,
             subst (λ o. Holds o (before ++ s ∷ []) now.after) (sym to)
                 (holds_on v u before s rest now.after z (parcels p (step g p el (Arrived k (sender g ms v k) (Configure m))).outs) z.all_good (subst (AllFold g law ms opening) to (next_folds v before (s ∷ rest) z i)) refl
@@ -498,10 +493,13 @@ module _ {Config Op Subs M P C : Type 0} (g : Ground Config Op Subs) (law : Lawf
           let seq : (v.at p).sequence ≡ (c.at p).last + 0 = st.0 in
           let part = base.parts p a in
           let fits : admits p (v.at p).epoch x ps false (scopes p) ≡ true =
-              and_true (c.epoch == (v.at p).epoch) _ (eq-eqb _ _ (sym (y.stand p a).epoch)) (and_true (Rattle.std.proofs.Common.not (c.begun + 1 == 0)) _ (no_zero c.begun) (and_true (takes_part p ps) (is_scope (scopes p)) part.takes part.scoped)) in
+          and_true (c.epoch == (v.at p).epoch) _ (eq-eqb _ _ (sym (y.stand p a).epoch)) (and_true (Rattle.std.proofs.Common.not (c.begun + 1 == 0)) _ (no_zero c.begun) (and_true (takes_part p ps) (is_scope (scopes p)) part.takes part.scoped)) in
           requested v before s rest ph i y z e p a (Asking 0) q refl ((c.at p).last + 1 + 0) (Sot x ps (scopes p)) refl se (omega arith) refl (λ n. cc) refl
-          (λ m sp. let f = sp refl in (f.0, sot_serves g law p (heard_from g (v.at p) source k) m x (scopes p) (ms.change plan p) (start.at p).settled (c.at p).last ps f.1 (idle_at p a).instances fits st.1.3 st.1.1 st.1.2 st.1.0 (omega arith)
-          (served.kept (λ t. let r : None ≡ Some Completed = sym st.1.0 ∙ t in absurd {A = ⊥} cc))))
+          (λ m sp. let f = sp refl in (
+            f.0,
+            sot_serves g law p (heard_from g (v.at p) source k) m x (scopes p) (ms.change plan p) (start.at p).settled (c.at p).last ps f.1 (idle_at p a).instances fits st.1.3 st.1.1 st.1.2 st.1.0 (omega arith)
+                (served.kept (λ t. let r : None ≡ Some Completed = sym st.1.0 ∙ t in absurd {A = ⊥} cc)),
+          ))
 
       adds : (d : ℕ) → ph p ≡ Asking (suc d) → nat_le (suc d) (counts p) ≡ true → s ≡ sent p k (message_of w k c ps counts scopes p (Asking (suc d))) → Result v before s ph i
       adds d q low se =
@@ -510,8 +508,11 @@ module _ {Config Op Subs M P C : Type 0} (g : Ground Config Op Subs) (law : Lawf
           let body_is : body w k c ps counts scopes (suc d) p ≡ Mot x (suc d) = cond_false (suc d == 0) _ _ (suc_not d) ∙ cond_true (nat_le (suc d) (counts p)) (Mot x (suc d)) (Eot x) low in
           let kept = (z.folds p).0 in
           requested v before s rest ph i y z e p a (Asking (suc d)) q refl ((c.at p).last + 1 + suc d) (Mot x (suc d)) (ap (Request (at_count c.epoch ((c.at p).last + 1 + suc d))) body_is) se (omega arith) refl (λ n. cc) refl
-          (λ m sp. let f = sp refl in (f.0, mot_serves g law p (heard_from g (v.at p) source k) m x (scopes p) (ms.change plan p) (start.at p).settled (c.at p).last d (counts p) f.1 (is_low (suc d) (counts p) low) st.1 kept.fine kept.disjoint served (omega arith)
-          (idle_at p a).succeeds (idle_at p a).inside))
+          (λ m sp. let f = sp refl in (
+            f.0,
+            mot_serves g law p (heard_from g (v.at p) source k) m x (scopes p) (ms.change plan p) (start.at p).settled (c.at p).last d (counts p) f.1 (is_low (suc d) (counts p) low) st.1 kept.fine kept.disjoint served (omega arith)
+                (idle_at p a).succeeds (idle_at p a).inside,
+          ))
 
       prepares : (d : ℕ) → ph p ≡ Asking (suc d) → nat_le (suc d) (counts p) ≡ false → s ≡ sent p k (message_of w k c ps counts scopes p (Asking (suc d))) → Result v before s ph i
       prepares d q high se =
@@ -629,8 +630,7 @@ module _ {Config Op Subs M P C : Type 0} (g : Ground Config Op Subs) (law : Lawf
         let sent_is : end.sent ≡ start.sent ++ since = more.1 ∙ ap (λ q. q ++ more.0) first_sent ∙ append_assoc start.sent spoke.says more.0 in
         let same : viewed since ≡ done.since = cancel w.sent (viewed since) done.since (ap (λ q. q ++ viewed since) (sym like.sent) ∙ sym (viewed_append start.sent since) ∙ ap viewed (sym sent_is) ∙ done.sent) in
         let now = some_of g ms (end.masters k) done.now done.runs in
-        let core_is : ms.core now.0 ≡ done.now = some_master (ms.core now.0) done.now (ap (option_map ms.core) (sym now.1) ∙ done.runs) in
-        (
+        let core_is : ms.core now.0 ≡ done.now = some_master (ms.core now.0) done.now (ap (option_map ms.core) (sym now.1) ∙ done.runs) in (
           n,
           record {
             since = since;

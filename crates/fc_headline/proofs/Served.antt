@@ -1,5 +1,5 @@
 -- What an element does with a message of a clean round.
-use Rattle.std.proofs.Common.{◌≡◌, ℕ, zero, suc, ◌+◌, ◌≤◌, ◌==◌, ◌&&◌, not, Bool, true, false, cond, List, [], ◌∷◌, ◌++◌, append-nil, length, replicate, Option, Some, None, is_some, eqb-true, eq-eqb, ⊎_elim, refl, sym, ap, ◌∙◌, subst, arith}
+use Rattle.std.proofs.Common.{◌≡◌, ℕ, zero, suc, ◌+◌, ◌≤◌, ◌==◌, not, Bool, true, false, cond, List, [], ◌∷◌, ◌++◌, append-nil, length, replicate, Option, Some, None, is_some, eqb-true, eq-eqb, refl, sym, ap, ◌∙◌, subst, arith}
 use Rattle.std.specs.FinMap.{contains_key, insert, get, get-insert}
 use Rattle.std.specs.List.{AllByRecursion}
 use Rattle.std.proofs.lemmas.Cmp.{nat_cmp_total, eq_by_cmp_equiv}
@@ -7,23 +7,22 @@ use Rattle.fc_agreement.specs.CleanRound.{Smooth}
 use Rattle.fc_assoc.specs.Associations.{AssociationMap, renewed, heard_at}
 use Rattle.fc_assoc.specs.declared.heard.Heard.{Heard}
 use Rattle.fc_base.specs.Ids.{Txn}
-use Rattle.fc_modes.specs.declared.mode.Mode.{Mode}
 use Rattle.fc_modes.specs.declared.mode.Mode.TheVariants.{AllOrNone}
 use Rattle.fc_headline.specs.CleanRound.{changes_to}
 use Rattle.fc_headline.specs.Folds.{Clean}
 use Rattle.fc_headline.proofs.Blocks.{clean_first, clean_rest}
-use Rattle.fc_headline.proofs.Held.{Is, bares_written, bares_rest}
+use Rattle.fc_headline.proofs.Held.{bares_written}
 use Rattle.fc_headline.proofs.Kept.{ops_own, ops_rest}
 use Rattle.fc_headline.proofs.Rounds.{clean_code, next_succeeds}
 use Rattle.fc_headline.proofs.Scopes.{Lies, Fine, Disjoint}
-use Rattle.fc_machine.specs.ElementMachine.{Arrived, Out, Step, responds, notices_to, acts, by_mode, by_verdict, heard_from, is_ce, step, takes}
+use Rattle.fc_machine.specs.ElementMachine.{Arrived, responds, notices_to, acts, by_mode, by_verdict, heard_from, is_ce, step, takes}
 use Rattle.fc_machine.specs.ElementState.{Entry, Element, ops_of, ops_at, written, rest_added, and_rest, working, noted, bares, first_code}
 use Rattle.fc_machine.specs.Ground.{Place, Ground, Lawful, inside_by}
 use Rattle.fc_machine.specs.Messages.{Configuring, Answer, Configure}
 use Rattle.fc_machine.specs.Transactions.{Did, checked, checked_shown, shown_of, within, is_completed, all_in, rest_codes, turned, and_adds, and_completes, starts, continues, prepares, completes, executes, scope_at}
 use Rattle.fc_machine.specs.Views.{scope_of, rest_of, quiet_by, circumstance, by_fence, of_mode, peers_of, circumstance_of}
-use Rattle.fc_machine.specs.WorldSteps.{Parcel, Fitting, Spelled, parcels}
-use Rattle.fc_protocol.specs.ElementMachine.{Circumstance, admits}
+use Rattle.fc_machine.specs.WorldSteps.{Fitting, Spelled, parcels}
+use Rattle.fc_protocol.specs.ElementMachine.{admits}
 use Rattle.fc_protocol.specs.Fence.{judge}
 use Rattle.fc_protocol.specs.Floors.{is_below}
 use Rattle.fc_protocol.specs.Messages.{same, Body, Sot, Mot, Eot, Trcomp, claim_of}
@@ -34,7 +33,7 @@ use Rattle.fc_protocol.specs.declared.states.Decision.TheVariants.{Complete}
 use Rattle.fc_protocol.specs.declared.states.TxnState.{TxnState}
 use Rattle.fc_protocol.specs.declared.states.TxnState.TheVariants.{Started, Prepared, Completed}
 use Rattle.fc_protocol.specs.declared.verdict.Verdict.TheVariants.{Next}
-use Rattle.fc_protocol.proofs.Basics.{AllOf, cond_true, cond_false, both, same_self, some_same}
+use Rattle.fc_protocol.proofs.Basics.{AllOf, cond_true, cond_false, same_self}
 use Rattle.fc_protocol.proofs.Records.{state_written}
 
 -- Records
@@ -196,9 +195,9 @@ module _ {Config Op Subs : Type 0} (g : Ground Config Op Subs) where
         let go = start_at p el x ps sc [] codes in
         let fits : admits p el.epoch x ps (not (all_in g sc)) sc ≡ true = ap (λ v. admits p el.epoch x ps (not v) sc) known ∙ a in
         let same : starts g p el x ps sc m.ops ≡ go true false false false 0 None =
-            ap (starts g p el x ps sc) none ∙ ap (λ v. go v (is_below x el.floor) (clashes sc (bares el.records)) (is_packed (bares el.records)) (first_code codes) (state_of x (bares el.records))) fits
-            ∙ ap (λ v. go true v (clashes sc (bares el.records)) (is_packed (bares el.records)) (first_code codes) (state_of x (bares el.records))) b ∙ ap (λ v. go true false v (is_packed (bares el.records)) (first_code codes) (state_of x (bares el.records))) h
-            ∙ ap (λ v. go true false false v (first_code codes) (state_of x (bares el.records))) r ∙ ap (λ v. go true false false false v (state_of x (bares el.records))) rest_empty ∙ ap (λ v. go true false false false 0 v) s in
+        ap (starts g p el x ps sc) none ∙ ap (λ v. go v (is_below x el.floor) (clashes sc (bares el.records)) (is_packed (bares el.records)) (first_code codes) (state_of x (bares el.records))) fits
+        ∙ ap (λ v. go true v (clashes sc (bares el.records)) (is_packed (bares el.records)) (first_code codes) (state_of x (bares el.records))) b ∙ ap (λ v. go true false v (is_packed (bares el.records)) (first_code codes) (state_of x (bares el.records))) h
+        ∙ ap (λ v. go true false false v (first_code codes) (state_of x (bares el.records))) r ∙ ap (λ v. go true false false false v (state_of x (bares el.records))) rest_empty ∙ ap (λ v. go true false false false 0 v) s in
         let new = written x ps sc Started el.records in
         let ops : ops_at x (rest_added x [] new) ≡ [] = ops_rest x [] new Started (own_state x ps sc Started el.records) ∙ append-nil (ops_at x new) ∙ ops_own x ps sc Started el.records refl ∙ no_ops x el.records s in
         record {
@@ -236,8 +235,8 @@ module _ {Config Op Subs : Type 0} (g : Ground Config Op Subs) where
         let mine : AllByRecursion (λ op. inside_by sc (g.place_of op) ≡ true) (f (suc d)) = all_right _ (changes_to f d) (f (suc d)) (changes_down (AllByRecursion (λ op. inside_by sc (g.place_of op) ≡ true)) f (all_left _) (suc d) n low inside) in
         let lies : AllOf (Lies g sc) (f (suc d)) = lies_of _ (f (suc d)) (clean_rest g.effect c (changes_to f d) (f (suc d)) all) mine in
         let zero_code : first_code codes ≡ 0 =
-            next_succeeds g law el x Started m.ops refl s fine apart (subst (λ v. AllOf (Lies g v) m.ops) (sym was.1) (subst (AllOf (Lies g sc)) (sym those) lies))
-            (subst (λ v. Clean g.effect v (ops_at x el.records ++ m.ops)) (sym same_c) (subst (λ v. Clean g.effect c (v ++ m.ops)) (sym was.0) (subst (λ v. Clean g.effect c (changes_to f d ++ v)) (sym those) all))) in
+        next_succeeds g law el x Started m.ops refl s fine apart (subst (λ v. AllOf (Lies g v) m.ops) (sym was.1) (subst (AllOf (Lies g sc)) (sym those) lies))
+        (subst (λ v. Clean g.effect v (ops_at x el.records ++ m.ops)) (sym same_c) (subst (λ v. Clean g.effect c (v ++ m.ops)) (sym was.0) (subst (λ v. Clean g.effect c (changes_to f d ++ v)) (sym those) all))) in
         let same : continues g p el x m.ops ≡ add_at m.ops codes 0 (Some Started) = ap (λ v. add_at m.ops codes v (state_of x (bares el.records))) zero_code ∙ ap (add_at m.ops codes 0) s in
         record {
           loud = adds_loud ((adding (first_code codes) st).code == 0) p x m.ops (turned g p el x [] [] (adding (first_code codes) st) (checked check codes (length m.ops)) (checked_shown g.is_shown m.ops check codes))
@@ -247,9 +246,9 @@ module _ {Config Op Subs : Type 0} (g : Ground Config Op Subs) where
           served = subst (λ (v : Did Config Op Subs). Served x sc f c last (el.sequence + 1) v.settled v.records) (sym same) (record {
             kept = λ _. same_c;
             added = λ _ o e. (
-                let z : o ≡ suc d = omega arith in ops_rest x m.ops el.records Started s ∙ ap (λ v. v ++ m.ops) was.0 ∙ ap (λ v. changes_to f d ++ v) those ∙ ap (changes_to f) (sym z),
-                scope_rest x m.ops el.records ∙ was.1,
-              );
+              let z : o ≡ suc d = omega arith in ops_rest x m.ops el.records Started s ∙ ap (λ v. v ++ m.ops) was.0 ∙ ap (λ v. changes_to f d ++ v) those ∙ ap (changes_to f) (sym z),
+              scope_rest x m.ops el.records ∙ was.1,
+            );
           });
         }
 

@@ -10,7 +10,7 @@ use Rattle.fc_machine.specs.ElementState.{Entry, Element, noted, bares, first_co
 use Rattle.fc_machine.specs.Ground.{Place, Ground}
 use Rattle.fc_machine.specs.Messages.{Configuring, Answer}
 use Rattle.fc_machine.specs.Trace.{of_protocol, bare_facts}
-use Rattle.fc_machine.specs.Transactions.{Did, checked, checked_shown, shown_of, refused_with, is_completed, all_in, places, with_floor, all_get, rest_codes, turned, and_adds, and_completes, sets_props, changes, executes, scope_at}
+use Rattle.fc_machine.specs.Transactions.{Did, checked, checked_shown, shown_of, is_completed, all_in, places, with_floor, all_get, rest_codes, turned, and_adds, and_completes, sets_props, changes, executes, scope_at}
 use Rattle.fc_machine.specs.Views.{config_body, view, views, quiet_by, rest_of, rest_shown, circumstance, peers_of, by_fence}
 use Rattle.fc_protocol.proofs.Basics.{cond_true, cond_false}
 use Rattle.fc_headline.proofs.Held.{bares_written, bares_rest, bares_undone}
@@ -29,7 +29,6 @@ use Rattle.fc_protocol.specs.Trace.{facts_of}
 use Rattle.fc_protocol.specs.WorldSteps.{spoken, murmurs}
 use Rattle.fc_protocol.specs.declared.states.Decision.TheVariants.{Complete}
 use Rattle.fc_protocol.specs.declared.states.TxnState.{TxnState}
-use Rattle.fc_protocol.specs.declared.states.TxnState.TheVariants.{Started, Prepared, Completed, Aborted}
 use Rattle.fc_protocol.specs.declared.verdict.Verdict.{Verdict}
 use Rattle.fc_protocol.specs.declared.verdict.Verdict.TheVariants.{Claim as Claims, Unclaimed, Stale, Again, Gap, Next}
 

@@ -7,7 +7,7 @@ use Rattle.fc_headline.specs.Folds.{Clean}
 use Rattle.fc_machine.specs.ElementMachine.{is_ce}
 use Rattle.fc_machine.specs.ElementState.{bares}
 use Rattle.fc_machine.specs.Ground.{Ground, inside_by}
-use Rattle.fc_machine.specs.Trace.{Fact, Of_protocol}
+use Rattle.fc_machine.specs.Trace.{Of_protocol}
 use Rattle.fc_machine.specs.Transactions.{all_in}
 use Rattle.fc_machine.specs.WorldSteps.{Parcel, Masters, World, Step, Begin, Deliver, sender, run, viewed}
 use Rattle.fc_protocol.specs.Collections.{In, among}
