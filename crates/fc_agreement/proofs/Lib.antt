@@ -24,6 +24,7 @@ pub mod Still
 pub mod Alone
 pub mod Limits
 pub mod OneElement
+pub mod Ownership
 pub mod Calm
 pub mod Claimed
 pub mod RoundStart

@@ -44,7 +44,7 @@ ignored : (v : World) (p j : ℕ) (o : Option Master) → v.masters j ≡ o → 
 ignored v p j None e c = refl
 ignored v p j (Some m) e c = ap (speaks v j []) (calm_finishes j m c) ∙ same_world v j m e
 
-notice_arrives : (v : World) (c : Circumstance) (i : ℕ) (s : Sent) → CalmWorld v → numbered v.sent i ≡ Some s → is_notice s.message ≡ true → happens v (Deliver i c) ≡ v
+pub notice_arrives : (v : World) (c : Circumstance) (i : ℕ) (s : Sent) → CalmWorld v → numbered v.sent i ≡ Some s → is_notice s.message ≡ true → happens v (Deliver i c) ≡ v
 notice_arrives v c i s calm n e =
     ap (delivers v c) n ∙ ap (delivered v c s.element s.controller) (was_notice s.message e) ∙ ignored v s.element s.controller (v.masters s.controller) refl (calm s.controller)
 

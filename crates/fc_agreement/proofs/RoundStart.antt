@@ -329,11 +329,11 @@ module _ (net : Network) (steps : List Step) (k : ℕ) (m : Master) (q0 : ℕ) (
 
     -- the round of anything whose world is seen, which has begun it
     module _ {S : Type 0} (seen : S → World) (next : S → ℕ → S) (Kept : S → List Sent → List Sent → Type 0) (passes : Passes w k m ps changes scopes ground once seen next Kept) (goes : Steps w k m ps changes scopes ground once seen next Kept) (first : S) (begun_is : seen first ≡ happens w (Begin k ps changes scopes))
-        (kept : (after : List Sent) → (seen first).sent ≡ w.sent ++ after → Kept first w.sent after) where
+        (kept : (after : List Sent) → Going w k m ps changes scopes (seen first) w.sent after (λ _. Asking 0) → Kept first w.sent after) where
       over : Over w k m ps changes scopes ground once seen next Kept first w.sent (λ _. Asking 0) (length w.sent + 1)
       over =
           let g : Going w k m ps changes scopes (seen first) w.sent ([] ++ (sends_all k m.elements n).says) (λ _. Asking 0) = subst (λ v. Going w k m ps changes scopes v w.sent ([] ++ (sends_all k m.elements n).says) (λ _. Asking 0)) (sym (begun_is ∙ begins_is)) starts in
-          walks w k m ps changes scopes ground once seen next Kept passes goes first w.sent ([] ++ (sends_all k m.elements n).says) (λ _. Asking 0) (length w.sent + 1) g (kept ([] ++ (sends_all k m.elements n).says) g.sent) refl
+          walks w k m ps changes scopes ground once seen next Kept passes goes first w.sent ([] ++ (sends_all k m.elements n).says) (λ _. Asking 0) (length w.sent + 1) g (kept ([] ++ (sends_all k m.elements n).says) g) refl
 
       none_flies : (p : ℕ) → among p ps ≡ true → flies (over.phase p) ≡ false
       none_flies p a = still (flies (over.phase p)) (over.going.queue.count p a)
@@ -421,7 +421,7 @@ module _ (net : Network) (steps : List Step) (k : ℕ) (m : Master) (q0 : ℕ) (
     pub smooth_round : (cs : ℕ → Circumstance) → ((i : ℕ) → Smooth (cs i)) → (o : ℕ) × Completes w (arrive cs (length w.sent + 1) o (happens w (Begin k ps changes scopes))) k m ps changes o
     smooth_round cs smooth =
         let r = round (λ (v : World). v) (next_world w k m ps changes scopes ground once cs smooth) (no_more w k m ps changes scopes ground once cs smooth) (world_passes w k m ps changes scopes ground once cs smooth) (world_steps w k m ps changes scopes ground once cs smooth)
-            (happens w (Begin k ps changes scopes)) refl (λ after e. tt) in
+        (happens w (Begin k ps changes scopes)) refl (λ after e. tt) in
         (r.0, subst (λ v. Completes w v k m ps changes r.0) (arrived_is w k m ps changes scopes ground once cs smooth r.0 (length w.sent + 1) (happens w (Begin k ps changes scopes))) r.1)
 
 pub clean_round_law : (net : Network) (steps : List Step) → CleanRound (run steps (first_world net))

@@ -19,7 +19,7 @@ use Rattle.fc_protocol.proofs.Basics.{cond_true, cond_false, and_true, both}
 abbrev pub at_count : ℕ → ℕ → Stamp
 at_count e n = record { life = e; count = n }
 
-judge_next : (e master seq sender n : ℕ) → (e == 0) ≡ false → sender ≡ master → n ≡ seq + 1 → judge e master seq sender (at_count e n) None ≡ Next
+pub judge_next : (e master seq sender n : ℕ) → (e == 0) ≡ false → sender ≡ master → n ≡ seq + 1 → judge e master seq sender (at_count e n) None ≡ Next
 judge_next e master seq sender n z s c =
     let mine : (e == e && sender == master) ≡ true = and_true (e == e) _ (eq-eqb e e refl) (eq-eqb sender master s) in
     let old : (n == seq) ≡ false = ⊎_elim (λ t. let i : n ≡ seq = eqb-true n seq t in absurd (omega arith)) (λ t. t) (both (n == seq)) in

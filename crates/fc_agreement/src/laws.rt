@@ -7,7 +7,7 @@ ghost use Rattle.fc_agreement.specs.Core.{Core, Move, moves, start};
 ghost use Rattle.fc_agreement.specs.CoreLaws.{OneEnd, PreparedBefore, PreparedDecided, ReachedDecided, NoLaterAbort, AnswersStay, EndsStay, DecisionsStay};
 ghost use Rattle.fc_protocol.specs.ElementMachine.{ElementState, new_element, Circumstance, hears};
 ghost use Rattle.fc_protocol.specs.Messages.{Stamp, Body};
-ghost use Rattle.fc_protocol.specs.OneElement.{Arrival, hears_all, PreparedFirst, SettlesOnce, RecordsTell, FloorClear, Distinct, Limited, ScopesApart, FewParticipants};
+ghost use Rattle.fc_protocol.specs.OneElement.{Arrival, hears_all, PreparedFirst, SettlesOnce, RecordsTell, FloorClear, Distinct, Limited, ScopesApart, FewParticipants, Owned};
 ghost use Rattle.fc_protocol.specs.WorldSteps.{Network, Step, first_world, run};
 
 /// Of one transaction of a life of the epoch `own`, with the participants `parts`, over every list of moves from the start; and, where it says so, over every further list of moves.
@@ -46,7 +46,7 @@ pub fn fenced()
 {}
 
 /// Of one element by itself, whatever requests it is sent, by whomever: it completes only what it has prepared and settles a transaction at most once, its records tell what it has settled and is not below its floor, no record is below it,
-/// no two are of one transaction, no two scopes of what is held meet, at most 64 are held, and there are at most 4,096, each with at most 64 participants.
+/// no two are of one transaction, no two scopes of what is held meet, at most 64 are held, and there are at most 4,096, each with at most 64 participants; its epoch is 0 or one, and only while it is 0 it has no master.
 pub fn one_element()
     ensures prepared_first { (p ce : ℕ) (arrivals : List Arrival) → PreparedFirst p (hears_all p arrivals (new_element ce) []).facts }
     ensures settles_once { (p ce : ℕ) (arrivals : List Arrival) → SettlesOnce p (hears_all p arrivals (new_element ce) []).facts }
@@ -55,6 +55,7 @@ pub fn one_element()
     ensures distinct { (p ce : ℕ) (arrivals : List Arrival) → Distinct (hears_all p arrivals (new_element ce) []).element.records }
     ensures apart { (p ce : ℕ) (arrivals : List Arrival) → ScopesApart (hears_all p arrivals (new_element ce) []).element.records }
     ensures few { (p ce : ℕ) (arrivals : List Arrival) → FewParticipants (hears_all p arrivals (new_element ce) []).element.records }
+    ensures owned { (p ce : ℕ) (arrivals : List Arrival) → Owned ce (hears_all p arrivals (new_element ce) []).element }
     ensures limited { (p ce : ℕ) (arrivals : List Arrival) → Limited (hears_all p arrivals (new_element ce) []).element.records }
 {}
 

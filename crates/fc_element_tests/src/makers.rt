@@ -3,7 +3,7 @@ use fc_base::{CeId, Epoch, TxnId};
 use std::test::Fail;
 
 // A controller of this number.
-pub fn controller(number: u32) -> Result<CeId, Fail> {
+pub(crate) fn controller(number: u32) -> Result<CeId, Fail> {
     match CeId::of(0x4000_0000 + number % 256) {
         Some(ce) => Ok(ce),
         None => Err(Fail::from("no control element")),
@@ -11,7 +11,7 @@ pub fn controller(number: u32) -> Result<CeId, Fail> {
 }
 
 // The epoch that this word is.
-pub fn epoch(word: u32) -> Result<Epoch, Fail> {
+pub(crate) fn epoch(word: u32) -> Result<Epoch, Fail> {
     match Epoch::from_word(word) {
         Some(epoch) => Ok(epoch),
         None => Err(Fail::from("no epoch")),
@@ -19,7 +19,7 @@ pub fn epoch(word: u32) -> Result<Epoch, Fail> {
 }
 
 // The transaction of this number that the life of an epoch has begun.
-pub fn transaction(word: u32, number: u32) -> Result<TxnId, Fail> {
+pub(crate) fn transaction(word: u32, number: u32) -> Result<TxnId, Fail> {
     match TxnId::of(epoch(word)?, number) {
         Some(txn) => Ok(txn),
         None => Err(Fail::from("no transaction")),

@@ -16,7 +16,8 @@ use Rattle.fc_protocol.specs.ElementMachine as protocol
 use Rattle.fc_protocol.specs.ElementMachine.{ElementState, Circumstance, Heard, only_says, hears}
 use Rattle.fc_protocol.specs.Messages as said
 use Rattle.fc_protocol.specs.Messages.{Request}
-use Rattle.fc_protocol.specs.OneElement.{Arrival, hears_all}
+use Rattle.fc_protocol.specs.OneElement.{Arrival, hears_all, Distinct, Limited, ScopesApart, FewParticipants, FloorClear, Owned}
+use Rattle.fc_agreement.proofs.Ownership.{owned_law}
 use Rattle.fc_protocol.specs.Trace as trace
 use Rattle.fc_protocol.specs.Trace.{Prepared_at, Settled_at}
 use Rattle.fc_protocol.specs.declared.states.Decision.TheVariants.{Complete}
@@ -103,11 +104,12 @@ module _ {Config Op Subs : Type 0} (g : Ground Config Op Subs) where
       record {
         prepared = λ x later before e. in_whole (Prepared_at p x) before (first_law p ce a.0 x (bare_facts later) (bare_facts before) (sym a.1.1 ∙ ap bare_facts e ∙ bare_append later (Of_protocol (Settled_at p x Complete) ∷ before)));
         once = λ x d e later before s i. settles_law p ce a.0 x d e (bare_facts later) (bare_facts before) (sym a.1.1 ∙ ap bare_facts s ∙ bare_append later (Of_protocol (Settled_at p x d) ∷ before)) (in_bare (Settled_at p x e) before i);
-        distinct = subst Rattle.fc_protocol.specs.OneElement.Distinct (sym records) (distinct_law p ce a.0);
-        limited = subst Rattle.fc_protocol.specs.OneElement.Limited (sym records) (limited_law p ce a.0);
-        apart = subst Rattle.fc_protocol.specs.OneElement.ScopesApart (sym records) (apart_law p ce a.0);
-        few = subst Rattle.fc_protocol.specs.OneElement.FewParticipants (sym records) (few_law p ce a.0);
-        clear = subst (λ (e : ElementState). Rattle.fc_protocol.specs.OneElement.FloorClear e.floor e.records) (sym a.1.0) (clear_law p ce a.0);
+        distinct = subst Distinct (sym records) (distinct_law p ce a.0);
+        limited = subst Limited (sym records) (limited_law p ce a.0);
+        apart = subst ScopesApart (sym records) (apart_law p ce a.0);
+        few = subst FewParticipants (sym records) (few_law p ce a.0);
+        clear = subst (λ (e : ElementState). FloorClear e.floor e.records) (sym a.1.0) (clear_law p ce a.0);
         inside = to_inside r.element.records f.0.fine;
         unclaimed = λ z. f.1 (eq-eqb r.element.epoch 0 z);
+        owned = subst (Owned ce) (sym a.1.0) (owned_law ce p a.0);
       }

@@ -4,7 +4,7 @@ use Rattle.std.specs.FinMap.{contains_key, remove, entries}
 use Rattle.fc_assoc.specs.Associations.{AssociationMap, entered, still_heard}
 use Rattle.fc_assoc.specs.declared.heard.Heard.{Heard}
 use Rattle.fc_modes.specs.declared.mode.Mode.{Mode}
-use Rattle.fc_machine.specs.ElementMachine.{Arrived, Step, Out, out, no_fact, wants, by_mode, on_config, on_query, gives, heard_from, with_associations, ended, notices_each, everyone, on_teardown, from_associate, is_ce, moved_on, watched, beats, is_due, on_moment, step}
+use Rattle.fc_machine.specs.ElementMachine.{Arrived, Step, Out, out, no_fact, by_mode, on_config, on_query, gives, heard_from, with_associations, ended, notices_each, everyone, on_teardown, from_associate, is_ce, moved_on, watched, beats, is_due, on_moment, step}
 use Rattle.fc_machine.specs.ElementState.{Element, tx}
 use Rattle.fc_machine.specs.Ground.{Ground}
 use Rattle.fc_machine.specs.Messages.{Configuring, Asked, Ask_held, Ask_one, Ask_other, Answer, Told, Message, Setup, Beat, Response, Says, Notice, Accepted, Teardown, Beat_down, Query, Configure}

@@ -13,3 +13,5 @@ pub mod Worlds
 pub mod Alone
 pub mod Forgetting
 pub mod Rounds
+pub mod Served
+pub mod CleanRounds

@@ -27,7 +27,7 @@ bare_append (Of_protocol f ∷ xs) ys = ap (λ v. f ∷ v) (bare_append xs ys)
 bare_append (Added_at p x ops ∷ xs) ys = bare_append xs ys
 bare_append (Plain_at p ops ∷ xs) ys = bare_append xs ys
 
-viewed_append : {Op : Type 0} (xs ys : List (Parcel Op)) → viewed (xs ++ ys) ≡ viewed xs ++ viewed ys
+pub viewed_append : {Op : Type 0} (xs ys : List (Parcel Op)) → viewed (xs ++ ys) ≡ viewed xs ++ viewed ys
 viewed_append [] ys = refl
 viewed_append (x ∷ xs) ys = ap (λ v. sent x.element x.controller (view x.message) ∷ v) (viewed_append xs ys)
 
@@ -35,7 +35,7 @@ viewed_parcels : {Op : Type 0} (p : ℕ) (os : List (Out Op)) → viewed (parcel
 viewed_parcels p [] = refl
 viewed_parcels p (o ∷ os) = ap (λ v. sent p o.peer (view o.message) ∷ v) (viewed_parcels p os)
 
-abbrev as_sent : {Op : Type 0} → Parcel Op → Sent
+abbrev pub as_sent : {Op : Type 0} → Parcel Op → Sent
 as_sent s = sent s.element s.controller (view s.message)
 
 get_viewed : {Op : Type 0} (xs : List (Parcel Op)) (i : ℕ) → slice_get (viewed xs) i ≡ option_map as_sent (slice_get xs i)
@@ -117,25 +117,27 @@ module _ {Config Op Subs M P C : Type 0} (g : Ground Config Op Subs) (ms : Maste
     begun = l.begun;
   }
 
-  sender_same : (v : W) (w : steps.World) (k : ℕ) → Like v w → sender g ms v k ≡ steps.sender w k
+  pub sender_same : (v : W) (w : steps.World) (k : ℕ) → Like v w → sender g ms v k ≡ steps.sender w k
   sender_same v w k l = ap (λ n. Rattle.std.specs.Prelude.unwrap_or (controller_of n.controllers k) 0) l.network
 
-  -- a request arrives at an element
-  request_like : (v : W) (w : steps.World) (p k : ℕ) (m : Message Op) (s : said.Stamp) (b : said.Body) → Like v w → view m ≡ Request s b
-      → (c : Circumstance) × Like (with_step g ms v p (step g p (v.at p) (Arrived k (sender g ms v k) m))) (steps.delivered w c p k (Request s b))
-  request_like v w p k m s b l e =
+  -- a request arrives at an element, in its circumstance
+  pub request_at : (v : W) (w : steps.World) (p k : ℕ) (m : Message Op) (s : said.Stamp) (b : said.Body) → Like v w → view m ≡ Request s b
+      → Like (with_step g ms v p (step g p (v.at p) (Arrived k (sender g ms v k) m))) (steps.delivered w (circumstance_of g p (v.at p) k (sender g ms v k) m) p k (Request s b))
+  request_at v w p k m s b l e =
       let a = arrives g p k (sender g ms v k) (v.at p) m in
       let c = circumstance_of g p (v.at p) k (sender g ms v k) m in
       let same : turns c p (tx (v.at p)) (sender g ms v k) (view m) ≡ hears p (w.at p) (steps.sender w k) c s b =
       ap (turns c p (tx (v.at p)) (sender g ms v k)) e ∙ ap (λ el. hears p el (sender g ms v k) c s b) (l.at p) ∙ ap (λ n. hears p (w.at p) n c s b) (sender_same v w k l) in
       let h = hears p (w.at p) (steps.sender w k) c s b in
-      let r = step g p (v.at p) (Arrived k (sender g ms v k) m) in (
-        c,
-        subst (λ ss. Like (with_step g ms v p r) (record { network = w.network; at = put w.at p h.element; masters = w.masters; sent = ss; used = w.used; facts = h.facts ++ w.facts; begun = w.begun }))
-            (sym (append_assoc w.sent (spoken p k h.says) (murmurs p c.others)))
-            (step_like v w p r h.element (spoken p k h.says ++ murmurs p c.others) h.facts l
-            (a.element ∙ ap (λ (x : Heard). x.element) same) (a.says ∙ ap (λ (x : Heard). spoken p k x.says ++ murmurs p c.others) same) (a.facts ∙ ap (λ (x : Heard). x.facts) same)),
-      )
+      let r = step g p (v.at p) (Arrived k (sender g ms v k) m) in
+      subst (λ ss. Like (with_step g ms v p r) (record { network = w.network; at = put w.at p h.element; masters = w.masters; sent = ss; used = w.used; facts = h.facts ++ w.facts; begun = w.begun }))
+      (sym (append_assoc w.sent (spoken p k h.says) (murmurs p c.others)))
+      (step_like v w p r h.element (spoken p k h.says ++ murmurs p c.others) h.facts l
+      (a.element ∙ ap (λ (x : Heard). x.element) same) (a.says ∙ ap (λ (x : Heard). spoken p k x.says ++ murmurs p c.others) same) (a.facts ∙ ap (λ (x : Heard). x.facts) same))
+
+  request_like : (v : W) (w : steps.World) (p k : ℕ) (m : Message Op) (s : said.Stamp) (b : said.Body) → Like v w → view m ≡ Request s b
+      → (c : Circumstance) × Like (with_step g ms v p (step g p (v.at p) (Arrived k (sender g ms v k) m))) (steps.delivered w c p k (Request s b))
+  request_like v w p k m s b l e = (circumstance_of g p (v.at p) k (sender g ms v k) m, request_at v w p k m s b l e)
 
   -- something else arrives there
   other_like : (v : W) (w : steps.World) (p k : ℕ) (m : Message Op) → Like v w → view m ≡ Other_down → (c : Circumstance) × Like (with_step g ms v p (step g p (v.at p) (Arrived k (sender g ms v k) m))) (steps.delivered w c p k Other_down)
@@ -218,7 +220,7 @@ module _ {Config Op Subs M P C : Type 0} (g : Ground Config Op Subs) (ms : Maste
     delivers_some v w None l = (no_circumstance, l)
     delivers_some v w (Some s) l = arrives_like v w s.element s.controller s.message l
 
-    delivers_like : (v : W) (w : steps.World) (i : ℕ) → Likes v w → (c : Circumstance) × Likes (delivers g ms v (numbered v.sent i)) (steps.delivers w c (steps.numbered w.sent i))
+    pub delivers_like : (v : W) (w : steps.World) (i : ℕ) → Likes v w → (c : Circumstance) × Likes (delivers g ms v (numbered v.sent i)) (steps.delivers w c (steps.numbered w.sent i))
     delivers_like v w i l =
         let r = delivers_some v w (numbered v.sent i) l in
         (r.0, subst (λ o. Likes (delivers g ms v (numbered v.sent i)) (steps.delivers w r.0 o)) (sym (numbered_viewed v.sent i) ∙ ap (λ ss. steps.numbered ss i) l.like.sent) r.1)
@@ -268,7 +270,7 @@ module _ {Config Op Subs M P C : Type 0} (g : Ground Config Op Subs) (ms : Maste
         let b : Begun = record { txn = next_txn (ms.core m); parts = ms.parts plan } in
         spoke_speaks (with_begun g ms v b) (steps.with_begun w b) k r.spoke (finish k (begins (ms.core m) (ms.parts plan) (ms.counts plan) (ms.scopes plan))) (begun_like v w b l) h f.core f.says
 
-    begin_like : (v : W) (w : steps.World) (k : ℕ) (plan : P) (o : Option M) → Likes v w → v.masters k ≡ o → Likes (begin_at g ms v k plan o) (steps.begin_at w k (ms.parts plan) (ms.counts plan) (ms.scopes plan) (option_map ms.core o))
+    pub begin_like : (v : W) (w : steps.World) (k : ℕ) (plan : P) (o : Option M) → Likes v w → v.masters k ≡ o → Likes (begin_at g ms v k plan o) (steps.begin_at w k (ms.parts plan) (ms.counts plan) (ms.scopes plan) (option_map ms.core o))
     begin_like v w k plan None l e = l
     begin_like v w k plan (Some m) l e =
         let f = fit.begins k m plan (l.good k m e) in

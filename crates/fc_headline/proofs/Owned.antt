@@ -1,5 +1,5 @@
 -- The facts of an element are its own, and what others do does not touch what it has completed.
-use Rattle.std.proofs.Common.{◌≡◌, ℕ, ◌==◌, ◌&&◌, not, Bool, true, false, cond, List, [], ◌∷◌, ◌++◌, length, Option, Some, None, refl, sym, ap, ◌∙◌, subst}
+use Rattle.std.proofs.Common.{◌≡◌, ℕ, ◌==◌, ◌&&◌, not, Bool, true, false, cond, List, [], ◌∷◌, ◌++◌, Option, Some, None, refl, sym, ap, ◌∙◌, subst}
 use Rattle.std.specs.FinMap.{contains_key}
 use Rattle.fc_base.specs.Ids.{Txn}
 use Rattle.fc_modes.specs.Modes.{folded}
@@ -10,7 +10,7 @@ use Rattle.fc_headline.specs.Folds.{Clean}
 use Rattle.fc_machine.specs.Ground.{Place, Ground}
 use Rattle.fc_machine.specs.Messages.{Configuring, Message, Setup, Beat, Response, Says, Notice, Accepted, Teardown, Beat_down, Query, Configure}
 use Rattle.fc_machine.specs.Trace.{Fact, Of_protocol, Added_at, Plain_at, of_protocol, added, completed, completed_by}
-use Rattle.fc_machine.specs.Transactions.{Did, checked, is_completed, all_in, places, scope_at, rest_codes, turned, and_adds, and_completes, starts_by, continues_by, with_floor, all_get, plain}
+use Rattle.fc_machine.specs.Transactions.{Did, is_completed, all_in, places, scope_at, rest_codes, turned, and_adds, and_completes, starts_by, continues_by, with_floor, all_get, plain}
 use Rattle.fc_headline.proofs.Folding.{Folds}
 use Rattle.fc_protocol.specs.ElementMachine.{admits}
 use Rattle.fc_protocol.specs.Fence.{judge}

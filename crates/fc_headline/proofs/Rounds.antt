@@ -89,7 +89,7 @@ module _ {Config Op Subs : Type 0} (g : Ground Config Op Subs) (law : Lawful g) 
   code_by effect c ops None e = first_zero (length ops)
   code_by effect c ops (Some at) e = cc
 
-  clean_code : (effect : Config → Op → Config × ℕ) (c : Config) (ops : List Op) → Clean effect c ops → first_code (outcome effect AllOrNone c ops).codes ≡ 0
+  pub clean_code : (effect : Config → Op → Config × ℕ) (c : Config) (ops : List Op) → Clean effect c ops → first_code (outcome effect AllOrNone c ops).codes ≡ 0
   clean_code effect c ops k = code_by effect c ops (first_refused effect c ops) (ap (position Rattle.fc_modes.proofs.Positions.is_refused) (zeros_of effect c ops k) ∙ position_none (length ops))
 
   -- so the rest of the next MOT has code 0

@@ -1,6 +1,7 @@
 -- An element does what the protocol says, in some circumstance.
 use Rattle.std.proofs.Common.{◌≡◌, ℕ, ◌+◌, ◌==◌, ◌&&◌, ◌||◌, not, Bool, true, false, cond, List, [], ◌∷◌, ◌++◌, length, map, replicate, Option, Some, None, option_map, ◌⊎◌, inl, inr, ⊎_elim, refl, sym, ap, ◌∙◌, subst, eq-eqb, eqb-true, append-nil}
 use Rattle.std.specs.FinMap.{get}
+use Rattle.std.specs.List.{AllByRecursion}
 use Rattle.fc_assoc.specs.declared.heard.Heard.{Heard}
 use Rattle.fc_base.specs.Ids.{Txn}
 use Rattle.fc_modes.specs.declared.mode.Mode.{Mode}
@@ -9,8 +10,8 @@ use Rattle.fc_machine.specs.ElementState.{Entry, Element, noted, bares, first_co
 use Rattle.fc_machine.specs.Ground.{Place, Ground}
 use Rattle.fc_machine.specs.Messages.{Configuring, Answer}
 use Rattle.fc_machine.specs.Trace.{of_protocol, bare_facts}
-use Rattle.fc_machine.specs.Transactions.{Did, checked, checked_shown, shown_of, refused_with, is_completed, all_in, places, with_floor, all_get, rest_codes, turned, and_adds, and_completes, sets_props, changes, executes, scope_at}
-use Rattle.fc_machine.specs.Views.{config_body, view, views, quiet_by, circumstance, peers_of, by_fence}
+use Rattle.fc_machine.specs.Transactions.{Did, checked, checked_shown, shown_of, is_completed, all_in, places, with_floor, all_get, rest_codes, turned, and_adds, and_completes, sets_props, changes, executes, scope_at}
+use Rattle.fc_machine.specs.Views.{config_body, view, views, quiet_by, rest_of, rest_shown, circumstance, peers_of, by_fence}
 use Rattle.fc_protocol.proofs.Basics.{cond_true, cond_false}
 use Rattle.fc_headline.proofs.Held.{bares_written, bares_rest, bares_undone}
 use Rattle.fc_headline.proofs.Forgetting.{bares_without}
@@ -28,7 +29,6 @@ use Rattle.fc_protocol.specs.Trace.{facts_of}
 use Rattle.fc_protocol.specs.WorldSteps.{spoken, murmurs}
 use Rattle.fc_protocol.specs.declared.states.Decision.TheVariants.{Complete}
 use Rattle.fc_protocol.specs.declared.states.TxnState.{TxnState}
-use Rattle.fc_protocol.specs.declared.states.TxnState.TheVariants.{Started, Prepared, Completed, Aborted}
 use Rattle.fc_protocol.specs.declared.verdict.Verdict.{Verdict}
 use Rattle.fc_protocol.specs.declared.verdict.Verdict.TheVariants.{Claim as Claims, Unclaimed, Stale, Again, Gap, Next}
 
@@ -287,3 +287,29 @@ module _ {Config Op Subs : Type 0} (g : Ground Config Op Subs) where
       let now = heard_from g el source k in
       let d = acts g p now m mode m.body in
       takes_fit p k now m d _ (acts_fit p now m mode m.body d.codes d.shown (peers_of (get now.associations now.ce) d.notices))
+
+  whole_if : (b : Bool) (code : ℕ) (hs cs : List ℕ) → b ≡ true → hs ≡ cs → cond b (code ∷ hs) hs ≡ code ∷ cs
+  whole_if true code hs cs e r = ap (λ v. code ∷ v) r
+  whole_if false code hs cs e r = cc
+
+  shown_whole : (ops : List Op) (codes : List ℕ) → AllByRecursion (λ op. g.is_shown op ≡ true) ops → shown_of g.is_shown ops codes ≡ codes
+  shown_whole [] codes all = refl
+  shown_whole (op ∷ ops) [] all = refl
+  shown_whole (op ∷ ops) (code ∷ codes) all = whole_if (g.is_shown op) code (shown_of g.is_shown ops codes) codes all.0 (shown_whole ops codes all.1)
+
+  shown_by : (el : Element Config Op Subs) (m : Configuring Op) (b : Body) → AllByRecursion (λ op. g.is_shown op ≡ true) m.ops → rest_shown g el m b ≡ rest_of g el m b
+  shown_by el m (Claim w) all = refl
+  shown_by el m (Sot x ps sc) all = ap first_code (shown_whole m.ops (rest_codes g el sc m.ops) all)
+  shown_by el m (Mot x i) all = ap first_code (shown_whole m.ops (rest_codes g el (scope_at x el.records) m.ops) all)
+  shown_by el m (Eot x) all = refl
+  shown_by el m (Trcomp x) all = refl
+  shown_by el m (Abt x) all = refl
+  shown_by el m (Floor f) all = refl
+  shown_by el m Malformed all = refl
+  shown_by el m Plain all = refl
+  shown_by el m Ask all = refl
+  shown_by el m (Ask_record x) all = refl
+
+  -- where each of its operations is shown, a response shows the first code that is not 0
+  pub told_whole : (el : Element Config Op Subs) (m : Configuring Op) → AllByRecursion (λ op. g.is_shown op ≡ true) m.ops → rest_shown g el m m.body ≡ rest_of g el m m.body
+  told_whole el m all = shown_by el m m.body all

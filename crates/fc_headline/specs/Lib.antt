@@ -3,3 +3,4 @@ pub mod OneElement
 pub mod Headline
 pub mod PlainestMasters
 pub mod PlainestLaws
+pub mod CleanRound

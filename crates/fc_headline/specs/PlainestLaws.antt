@@ -1,10 +1,12 @@
--- The plainest masters and configuration keep the laws.
+-- That the plainest masters and the plainest configuration keep the laws; a trait can be kept only by what stands in specs/. This profile's own.
 use Rattle.std.proofs.Common.{◌≡◌, ◌≢◌, ℕ, ◌==◌, Bool, true, false, cond, List, [], ◌∷◌, ◌++◌, Some, None, refl, sym, ap, ◌∙◌, eqb-true}
+use Rattle.std.specs.List.{AllByRecursion}
+use Rattle.fc_base.specs.Ids.{Txn}
 use Rattle.fc_machine.specs.Ground.{Place, Lawful, Commute}
 use Rattle.fc_machine.specs.Plainest.{Pair, Set, set_part, set_effect, part_place, pairs}
 use Rattle.fc_headline.specs.PlainestMasters.{spelled, spelled_body, all_spelled, plainest}
 use Rattle.fc_machine.specs.Views.{view}
-use Rattle.fc_machine.specs.WorldSteps.{viewed, MastersFit}
+use Rattle.fc_machine.specs.WorldSteps.{viewed, MastersFit, SpelledMessage, Spelled, MastersSpell}
 use Rattle.fc_protocol.specs.Scopes.{same_place}
 use Rattle.fc_protocol.specs.MasterMachine as protocol
 use Rattle.fc_protocol.specs.Messages as said
@@ -87,3 +89,39 @@ pairs_lawful = record {
   where
     some_none : {A : Type 0} (p : Place) → Some p ≡ None → A
     some_none p e = cc
+
+-- Their spelling
+
+body_spelled : (Op : Type 0) (x : Txn) (m : Stamp) (b : Body) → SpelledMessage x (λ i. []) (spelled_body {Op = Op} m b)
+body_spelled Op x m (Claim w) = tt
+body_spelled Op x m (Sot y ps sc) = λ e. (record { lost = refl; astray = refl; mode = refl; ack = refl }, refl)
+body_spelled Op x m (Mot y i) = λ e. (record { lost = refl; astray = refl; mode = refl; ack = refl }, refl)
+body_spelled Op x m (Eot y) = λ e. record { lost = refl; astray = refl; mode = refl; ack = refl }
+body_spelled Op x m (Trcomp y) = λ e. record { lost = refl; astray = refl; mode = refl; ack = refl }
+body_spelled Op x m (Abt y) = tt
+body_spelled Op x m (Floor f) = tt
+body_spelled Op x m Malformed = tt
+body_spelled Op x m Plain = tt
+body_spelled Op x m Ask = tt
+body_spelled Op x m (Ask_record y) = tt
+
+message_spelled : (Op : Type 0) (x : Txn) (m : said.Message) → SpelledMessage x (λ i. []) (spelled {Op = Op} m)
+message_spelled Op x said.Setup = tt
+message_spelled Op x said.Beat = tt
+message_spelled Op x (said.Request m b) = body_spelled Op x m b
+message_spelled Op x (said.Reply m code) = tt
+message_spelled Op x (said.Holds m e ns) = tt
+message_spelled Op x (said.Tells m y e s) = tt
+message_spelled Op x (said.Unread m e) = tt
+message_spelled Op x said.Other_up = tt
+message_spelled Op x said.Other_down = tt
+
+each_spelled : (Op : Type 0) (x : Txn) (ss : List Sent) → AllByRecursion (Spelled x (λ p i. [])) (all_spelled {Op = Op} ss)
+each_spelled Op x [] = tt
+each_spelled Op x (s ∷ ss) = (message_spelled Op x s.message, each_spelled Op x ss)
+
+pub plainest_spell : (Op : Type 0) → MastersSpell (plainest Op) (λ _. Unit {0}) (λ _ _ _. Unit {0})
+plainest_spell Op = record {
+  begins = λ k m plan g e. (tt, each_spelled Op (protocol.next_txn m) (protocol.finish k (protocol.begins m plan.parts plan.counts plan.scopes)).says);
+  hears = λ k m p y x plan g d. (tt, each_spelled Op x (protocol.at_once k m p (view y) ++ (protocol.finish k (protocol.heard m p (view y))).says));
+}

@@ -1,9 +1,14 @@
 //! The laws of the machine of an element and of the world. Each function has no body: what it ensures holds of the definitions in specs/.
 
-ghost use Rattle.std.specs.Prelude.{ℕ, List};
+ghost use Rattle.std.specs.Prelude.{◌≡◌, ℕ, true, List};
+ghost use Rattle.std.specs.List.{AllByRecursion};
+ghost use Rattle.fc_headline.specs.CleanRound.{CleanRound};
 ghost use Rattle.fc_headline.specs.Folds.{ElementFolds};
 ghost use Rattle.fc_headline.specs.Headline.{Headline};
 ghost use Rattle.fc_headline.specs.OneElement.{ElementKeeps};
+ghost use Rattle.fc_machine.specs.ElementState.{Element};
+ghost use Rattle.fc_machine.specs.Messages.{Configuring, Message};
+ghost use Rattle.fc_machine.specs.Views.{Goes, circumstance_of, rest_of, rest_shown};
 ghost use Rattle.fc_machine.specs.WorldSteps.{Step, first_world, run};
 ghost use Rattle.fc_protocol.specs.WorldSteps.{Network};
 
@@ -16,7 +21,21 @@ pub fn element_folds<G: Grounds>()
     ensures keeps { ElementKeeps G.basis }
 {}
 
-/// At every moment of every script.
+/// At every moment of every script, whatever is lost, repeated or reordered, and whichever controllers and elements stop and return: no two elements settle one transaction differently; each that completes one had every participant prepared; each
+/// settled configuration is the fold of what its element has completed; a Config of a life below an element's epoch changes nothing there; and what a master counts as settled was settled so at every participant.
 pub fn headline<G: Grounds>()
     ensures { (opening : G.Config) (subs : G.Subs) (n : Network) (steps : List (Step G.Plan G.Change)) → Headline G.basis G.masters opening (run G.basis G.masters steps (first_world opening subs n)) }
+{}
+
+/// Whatever arrives at an element, with any bytes, it becomes what the protocol says, says what the protocol says, and gives the facts that the protocol gives, in the circumstance that its state and the message make; and where the response
+/// leaves out no operation that came with a start or a change, it shows the first of their codes that is not 00.
+pub fn element_goes_by_the_protocol<G: Grounds>()
+    ensures goes { (p k source : ℕ) (el : Element G.Config G.Op G.Subs) (m : Message G.Op) → Goes G.basis p el k source m (circumstance_of G.basis p el k source m) }
+    ensures shown { (el : Element G.Config G.Op G.Subs) (m : Configuring G.Op) → AllByRecursion (λ op. G.basis.is_shown op ≡ true) m.ops → rest_shown G.basis el m m.body ≡ rest_of G.basis el m m.body }
+{}
+
+/// In every world: where a plan may begin at idle elements, its changes succeed one after the other on the settled configuration of each and lie in its scope there, and all messages from there on arrive once and in their order, until none is left,
+/// every participant completes it, whatever else is held there, and the master's job is settled. That no message is left comes after some number of deliveries.
+pub fn clean_rounds<G: Grounds>()
+    ensures { (opening : G.Config) (subs : G.Subs) (n : Network) (steps : List (Step G.Plan G.Change)) → CleanRound G.basis G.masters (run G.basis G.masters steps (first_world opening subs n)) }
 {}

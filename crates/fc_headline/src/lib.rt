@@ -6,5 +6,5 @@ mod laws;
 mod pairs;
 
 pub use basis::Grounds;
-pub use laws::{element_folds, headline};
+pub use laws::{clean_rounds, element_folds, element_goes_by_the_protocol, headline};
 pub use pairs::Pairs;

@@ -1,6 +1,6 @@
 //! The laws are not empty: a configuration and masters that keep them.
 
-ghost use Rattle.fc_headline.specs.PlainestLaws.{pairs_lawful, plainest_fit};
+ghost use Rattle.fc_headline.specs.PlainestLaws.{pairs_lawful, plainest_fit, plainest_spell};
 ghost use Rattle.fc_headline.specs.PlainestMasters.{Plan, plainest};
 ghost use Rattle.fc_machine.specs.Plainest.{Pair, Set, pairs};
 ghost use Rattle.fc_protocol.specs.MasterMachine.{Master as Kept};
@@ -32,4 +32,8 @@ impl Grounds for Pairs {
     ghost Good = { λ _. Unit {0} };
 
     ghost fit = { plainest_fit Set };
+
+    ghost Drives = { λ _ _ _. Unit {0} };
+
+    ghost spell = { plainest_spell Set };
 }
