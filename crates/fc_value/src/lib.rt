@@ -16,7 +16,7 @@ mod tests;
 mod value;
 mod write;
 
-pub use key::key_value;
+pub use key::{key_value, keys_differ};
 pub use laws::{opening_values, other_places_stay, reading_is_the_form, written_values_are_read};
 pub use live::Live;
 pub use nodes::{node, node_mut, replace_node};
