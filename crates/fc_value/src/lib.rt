@@ -16,7 +16,7 @@ mod tests;
 mod value;
 mod write;
 
-pub use key::key_value;
+pub use key::{key_value, keys_differ};
 pub use laws::{
     opening_values, other_places_stay, reading_is_the_form, sizes_bound_what_is_written,
     written_values_are_read,

@@ -1,0 +1,5 @@
+pub mod Finding
+pub mod Merging
+pub mod Places
+pub mod Putting
+pub mod Removing
