@@ -1,5 +1,5 @@
 // Selects and faults whose bytes and places stand in the specification of the format.
-use crate::{Body, Oper, OperKind, PathData, PathFault, Select, Step, fits_results};
+use crate::{Body, Oper, OperKind, PathData, PathFault, PathHead, Select, Step, fits_results};
 use fc_base::{Code, Duplicate, List, Memory, Octets, WriteFault};
 use fc_wire::{Tlv, TlvWriter, Tlvs, WireFault};
 use std::alloc::{AllocError, Global};
@@ -545,21 +545,68 @@ const SIMPLE: [(OperKind, &str); 5] = [
     ),
 ];
 
+// The IDs of a head and its key, as they are lent.
 #[test]
-fn simple_path_data_are_read_in_place(rt: HostRuntime) -> Result<(), Fail> {
+fn heads_are_lent(rt: HostRuntime) -> Result<(), Fail> {
     let alloc = rt.alloc();
-    for (at, (kind, digits)) in SIMPLE.into_iter().enumerate() {
+    // with an ID, with two, with none, and with a key; where each ends, and whether a body is left
+    let cases: [(&str, &[u32], bool, usize, bool); 4] = [
+        (
+            "01100014 7FFF0001 00000007 01120005 AB000000",
+            &[7],
+            false,
+            44,
+            true,
+        ),
+        (
+            "01100010 00000002 00000007 00000008",
+            &[7, 8],
+            false,
+            40,
+            false,
+        ),
+        ("01100008 00000000", &[], false, 32, false),
+        (
+            "01100024 80000001 00000007 01110010 00000001 01120008 65746830 01120005 AB000000",
+            &[7],
+            true,
+            60,
+            true,
+        ),
+    ];
+    for (digits, ids, keyed, end, is_left) in cases {
         let bytes = bytes_of(alloc, digits)?;
         let tlv = first(&bytes).ok_or("a TLV")?;
-        let value: &[u8] = &[0xab];
-        let (plain, bare, ended) = match at {
-            0 | 1 => (Some((7, value)), None, None),
-            2 => (None, Some(7), None),
-            _ => (None, None, Some((7, Code(0x15)))),
+        let mut head = PathHead::read(&tlv).ok().ok_or("a head")?;
+        for id in ids {
+            assert!(rt; head.ids.next() == Some(*id), "{digits}");
+        }
+        assert!(rt;
+            head.ids.next().is_none() && head.ids.next().is_none(),
+            "{digits}"
+        );
+        assert!(rt; head.key.is_some() == keyed, "{digits}");
+        if let Some(key) = &head.key {
+            assert_eq!(rt; key.ident, 1);
+            assert!(rt; key.value == b"eth0".as_slice(), "{digits}");
+        }
+        assert_eq!(rt; head.end, end, "{digits}");
+        let left = match head.body.next() {
+            Some(Ok(body)) => body.kind == 0x0112 && body.body == [0xab].as_slice(),
+            _ => false,
         };
-        assert!(rt; PathData::read_plain(kind, &tlv) == plain, "{digits}");
-        assert!(rt; PathData::read_bare(kind, &tlv) == bare, "{digits}");
-        assert!(rt; PathData::read_ended(kind, &tlv) == ended, "{digits}");
+        assert!(rt; left == is_left, "{digits}");
+    }
+    for (digits, fault) in [
+        ("01100008 00000001", PathFault::CountPast { place: 24 }),
+        (
+            "0110000C 80000001 00000007",
+            PathFault::KeyFlag { place: 28 },
+        ),
+    ] {
+        let bytes = bytes_of(alloc, digits)?;
+        let tlv = first(&bytes).ok_or("a TLV")?;
+        assert!(rt; PathHead::read(&tlv).err() == Some(fault), "{digits}");
     }
     Ok(())
 }
@@ -587,7 +634,7 @@ fn simple_path_data_are_read(rt: HostRuntime) -> Result<(), Fail> {
 }
 
 #[test]
-fn other_path_data_are_not_read_in_place(rt: HostRuntime) -> Result<(), Fail> {
+fn other_path_data_are_read_or_refused(rt: HostRuntime) -> Result<(), Fail> {
     let alloc = rt.alloc();
     // with a key, with two IDs, with none, with parts of a value, with more PATH-DATA, with a TLV behind the body, of
     // another operation, cut off, and of another type
@@ -640,9 +687,6 @@ fn other_path_data_are_not_read_in_place(rt: HostRuntime) -> Result<(), Fail> {
     for (kind, digits, taken) in cases {
         let bytes = bytes_of(alloc, digits)?;
         let tlv = first(&bytes).ok_or("a TLV")?;
-        assert!(rt; PathData::read_plain(kind, &tlv).is_none(), "{digits}");
-        assert!(rt; PathData::read_bare(kind, &tlv).is_none(), "{digits}");
-        assert!(rt; PathData::read_ended(kind, &tlv).is_none(), "{digits}");
         assert!(rt;
             PathData::read(alloc, kind, &tlv).is_ok() == taken,
             "{digits}"
