@@ -123,34 +123,32 @@ fn a_client_is_served_over_tcp(rt: HostRuntime) -> Result<(), Fail> {
     Ok(())
 }
 
+// How many moments the hub tells before bytes come, each a second at least after the last.
+fn moments_before_bytes<H: Hub>(hub: &mut H, last: &mut u64) -> Result<u32, Fail> {
+    for count in 0..100u32 {
+        match hub.next()? {
+            HubEvent::Moment(now) if now >= last.saturating_add(1000) => *last = now,
+            HubEvent::Bytes(_, _) => return Ok(count),
+            _ => return Err(Fail::from("a moment too soon, or something else")),
+        }
+    }
+    Err(Fail::from("no bytes"))
+}
+
 #[test]
 fn moments_are_told_while_bytes_come(rt: HostRuntime) -> Result<(), Fail> {
     let alloc = rt.alloc();
     let mut hub = TcpHub::listen(alloc, &rt, "127.0.0.1:0", 2)?;
-    let mut last = moment(&mut hub)?;
+    let _ = moment(&mut hub)?;
     let mut client = TcpStream::connect(&rt, address(&hub)?)?;
+    assert_eq!(rt; event(&mut hub)?, HubEvent::Opened(1));
+    let mut last = 0;
     let mut told = 0u32;
-    let mut beats = 0u32;
     for _ in 0..10u32 {
         client.write_all(&HEARTBEAT)?;
-        let mut come = false;
-        while !come {
-            match hub.next()? {
-                HubEvent::Moment(now) => {
-                    assert!(rt; now >= last.saturating_add(1000), "no moment too soon");
-                    last = now;
-                    told += 1;
-                }
-                HubEvent::Bytes(_, _) => {
-                    beats += 1;
-                    come = true;
-                }
-                _ => {}
-            }
-        }
+        told = told.saturating_add(moments_before_bytes(&mut hub, &mut last)?);
         rt.sleep(Duration::from_millis(300));
     }
-    assert_eq!(rt; beats, 10);
     assert!(rt; told >= 2, "{told} moments");
     Ok(())
 }
