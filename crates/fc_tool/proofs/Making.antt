@@ -1,22 +1,40 @@
 -- How `make` ends, from how its parts ended, and that a known input has one ending.
-use Rattle.std.proofs.Common.{◌≡◌, ℕ, List, refl, sym, ap, ◌∙◌, inl, inr, Option, Some, Result, Ok, Err}
+use Rattle.std.proofs.Common.{◌≡◌, ℕ, List, [], ◌++◌, refl, sym, ap, ◌∙◌, inl, inr, Option, Some, Result, Ok, Err}
 use Rattle.std.specs.Io.KnownBytes.{Keeps}
 use Rattle.std.proofs.KnownBytes.{Appends-kept}
 use Rattle.fc_base.specs.Content.{AppendsFront}
 use Rattle.fc_msg.specs.declared.message.Message.{Message}
+use Rattle.fc_text.specs.Making.{Makes as AreMade}
+use Rattle.fc_text.specs.TextGrammar.{SpellsText}
 use Rattle.fc_text.specs.TextPlaces.{TextPlace}
 use Rattle.fc_text.specs.TextReading.{text_in}
+use Rattle.fc_text.specs.declared.fault.TextFault.TheVariants.{At}
 use Rattle.fc_tool.specs.declared.input.Look.TheVariants as look
 use Rattle.fc_tool.specs.declared.make.Made.{Made}
 use Rattle.fc_tool.specs.declared.make.Made.TheVariants.{Done, ReadFault, Refused, TooLong}
 use Rattle.fc_tool.specs.declared.stops.Stop.{Stop}
 use Rattle.fc_tool.specs.declared.stops.Stop.TheVariants.{WriteFault, NoMemory}
 use Rattle.fc_tool.specs.ElementRun.{LookEnds}
-use Rattle.fc_tool.specs.Make.{IsTold, MakeEnds, MakeSource, Makes, TextEnds, look_of}
+use Rattle.fc_tool.specs.Make.{IsTextOf, IsTold, MakeEnds, MakeSource, Makes, TextEnds, bytes_of, look_of}
 use Rattle.fc_tool.proofs.Shows.{whole_front}
 use Rattle.fc_tool.proofs.Outcomes.{read_twice, whole_long}
 
 -- ---- the text
+
+-- what was made of a text is the bytes of whatever messages it is a text of
+pub made_of : (bytes written old new : List ℕ) (ms : List Message) → ((ns : List Message) → SpellsText ns bytes → AreMade (Ok tt) (Ok ns) old new) → SpellsText ms bytes → old ≡ [] → written ≡ new
+    → IsTextOf ms bytes written
+made_of bytes written old new ms only spelled e w = (
+  spelled,
+  λ ns s.
+      let (ks, is, made) = only ns s in
+      let same : ns ≡ ks = cc in
+      w ∙ made ∙ ap (λ l. l ++ bytes_of ks) e ∙ ap bytes_of (sym same),
+)
+
+-- a text that is refused is one of no messages
+pub none_of : (bytes old new : List ℕ) (line column : ℕ) → ((ns : List Message) → SpellsText ns bytes → AreMade (Err (At line column)) (Ok ns) old new) → (ms : List Message) → SpellsText ms bytes → ⊥
+none_of bytes old new line column only ms s = let is = (only ms s).0 in cc
 
 -- of what is to be written of the text a front was
 pub text_stops : (stop : Stop) (end : Made) (bytes written : List ℕ) (old new : Option (List ℕ)) → look_of end ≡ look.Whole → Makes end bytes written

@@ -6,6 +6,8 @@ use Rattle.fc_base.specs.Causes.{Rose}
 use Rattle.fc_base.specs.Content.{AppendsFront}
 use Rattle.fc_msg.specs.Messages.{canonical}
 use Rattle.fc_msg.specs.declared.message.Message.{Message}
+use Rattle.fc_text.specs.FirstMisfit.{FirstMisfit, FitsMessages, IsWithin, TooLongAt}
+use Rattle.fc_text.specs.TextGrammar.{SpellsText}
 use Rattle.fc_text.specs.TextPlaces.{TextPlace}
 use Rattle.fc_text.specs.TextReading.{text_in}
 use Rattle.fc_tool.specs.declared.input.Look.{Look}
@@ -32,12 +34,23 @@ look_of ReadFault = look.ReadFault
 look_of Refused = look.Whole
 look_of TooLong = look.TooLong
 
+-- the bytes are a text of these messages by its grammar, and whatever messages they are a text of, it is the bytes of those that are
+-- written
+abbrev pub IsTextOf : List Message → List ℕ → List ℕ → Type 0
+IsTextOf ms bytes written = SpellsText ms bytes × ((ns : List Message) → SpellsText ns bytes → written ≡ bytes_of ns)
+
+-- the bytes are a text of no messages by its grammar; nothing fits first at the place, or a message that can't be encoded begins there;
+-- and the place is within the text, or right behind a line or the text
+abbrev pub IsRefusedAt : TextPlace → List ℕ → Type 0
+IsRefusedAt at bytes =
+    ((ms : List Message) → SpellsText ms bytes → ⊥) × (FirstMisfit FitsMessages at bytes ⊎ TooLongAt at bytes) × IsWithin at bytes
+
 -- where `make` ends so, this is written of the bytes that were read
 abbrev pub Makes : Made → List ℕ → List ℕ → Type 0
 -- the bytes are the text of messages, whose canonical bytes are written
-Makes Done bytes written = (ms : List Message) × (text_in bytes ≡ Ok ms) × (written ≡ bytes_of ms)
+Makes Done bytes written = (ms : List Message) × (text_in bytes ≡ Ok ms) × (written ≡ bytes_of ms) × IsTextOf ms bytes written
 -- they are the text of none, and the place is written at which they fail first
-Makes Refused bytes written = (at : TextPlace) × (text_in bytes ≡ Err at) × (written ≡ text_refusal at)
+Makes Refused bytes written = (at : TextPlace) × (text_in bytes ≡ Err at) × (written ≡ text_refusal at) × IsRefusedAt at bytes
 -- the input can't be read, or is too long
 Makes ReadFault bytes written = written ≡ []
 Makes TooLong bytes written = written ≡ []

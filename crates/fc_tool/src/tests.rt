@@ -281,26 +281,46 @@ fn each_call_of_the_source_fails_in_turn(rt: HostRuntime) -> Result<(), Fail> {
     Ok(())
 }
 
-// So many bytes of heartbeats, one after the other, which nobody stores.
+// So many bytes of heartbeats, one after the other, which nobody stores. A read fails after their end was told, and after
+// a byte past the limit was given, since nothing is to be read then. As each read before gives a byte at least, that bounds
+// how often is read: 67,108,866 times.
 #[derive(Drop)]
 pub struct Endless {
-    pub left: usize,
-    pub at: usize,
+    left: usize,
+    given: usize,
+    over: bool,
+    faults: u64,
+}
+
+impl Endless {
+    pub fn new(left: usize) -> Endless {
+        Endless {
+            left,
+            given: 0,
+            over: false,
+            faults: 0,
+        }
+    }
 }
 
 impl Source for Endless {
     ghost left = { λ _. None };
 
-    ghost faults = { λ _. 0 };
+    ghost faults = { λ s. s.faults };
 
     fn read(&mut self, into: &mut [u8]) -> Result<usize, Trouble> {
+        if self.over {
+            self.faults = self.faults.saturating_add(1);
+            return Err(Trouble::Failed);
+        }
         let count = into.len().min(self.left);
         self.left -= count;
         for byte in into[..count].iter_mut() {
-            let at = self.at % 24;
+            let at = self.given % 24;
             *byte = BEAT[at];
-            self.at = (at + 1) % 24;
+            self.given = self.given.saturating_add(1);
         }
+        self.over = count == 0 || self.given > 67_108_864;
         Ok(count)
     }
 }
@@ -344,10 +364,7 @@ fn so_many_bytes_are_looked_at_and_no_more(rt: HostRuntime) -> Result<(), Fail> 
         (1, 12, LINE),
         (1_000_000, 12, LINE),
     ] {
-        let mut input = Endless {
-            left: more.saturating_add(67_108_864),
-            at: 0,
-        };
+        let mut input = Endless::new(more.saturating_add(67_108_864));
         let mut out = Tally {
             bytes: 0,
             writes: 0,
@@ -598,7 +615,8 @@ fn a_peer_beyond_the_sixty_fourth_is_closed(rt: HostRuntime) -> Result<(), Fail>
 fn each_call_of_the_hub_fails_in_turn(rt: HostRuntime) -> Result<(), Fail> {
     let alloc = rt.alloc();
     let words = words(alloc, "element 2 40000001 a 1 9")?;
-    // An event, the setup, two events, the answer, an event, the closing and the end are eight calls.
+    // An event, the setup, two events, the answer, an event, the closing and the end are eight calls. A ninth would fail, and
+    // there is none: once the end was told no event is taken.
     for call in 1u64..10 {
         let mut failing = Vec::new(alloc);
         failing.push(call)?;

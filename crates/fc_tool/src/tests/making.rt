@@ -174,10 +174,7 @@ fn so_many_bytes_are_looked_at_and_no_more(rt: HostRuntime) -> Result<(), Fail> 
     let words = words(alloc, "make")?;
     // The bytes of heartbeats are no text.
     for (more, status, written) in [(0usize, 5, "refused text 1 1\n"), (1, 12, "")] {
-        let mut input = Endless {
-            left: more.saturating_add(67_108_864),
-            at: 0,
-        };
+        let mut input = Endless::new(more.saturating_add(67_108_864));
         let mut out = SureSink::new(alloc);
         assert_eq!(rt;
             run_without_hub(alloc, words.as_slice(), &mut input, &mut out),
