@@ -1,2 +1,4 @@
 pub mod Beats
 pub mod Fitting
+pub mod Runs
+pub mod Sent
