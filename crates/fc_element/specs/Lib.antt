@@ -1,2 +1,3 @@
 pub mod ElementMachine
 pub mod ElementState
+pub mod Runs

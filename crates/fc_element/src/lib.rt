@@ -4,6 +4,7 @@
 
 mod element;
 mod input;
+mod laws;
 mod replies;
 mod report;
 mod settings;
@@ -12,4 +13,7 @@ mod tests;
 
 pub use element::Element;
 pub use input::{ElIn, Out};
+pub use laws::{
+    associations_are_accepted_and_heard, heartbeats_are_answered, nothing_else_is_sent,
+};
 pub use settings::HeartbeatSettings;

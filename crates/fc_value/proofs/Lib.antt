@@ -15,4 +15,5 @@ pub mod Rising
 pub mod Shrinking
 pub mod Sound
 pub mod SparseForms
+pub mod Trying
 pub mod Written

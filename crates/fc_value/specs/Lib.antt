@@ -8,4 +8,5 @@ pub mod Outcomes
 pub mod Reading
 pub mod Sparse
 pub mod SparseForm
+pub mod Trials
 pub mod Writing

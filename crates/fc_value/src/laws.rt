@@ -1,5 +1,6 @@
 // Laws of the full form of values, and of the nodes in them.
-ghost use Rattle.std.specs.Prelude.{◌≡◌, ◌≤◌, ◌++◌, List, ℕ, ℤ, length, true, Ok, Some, None, option_map, unsigned_abs};
+ghost use Rattle.std.specs.Prelude.{◌≡◌, ◌≤◌, ◌++◌, ◌↔◌, List, ℕ, ℤ, length, true, Ok, Err, Some, None, option_map, unsigned_abs};
+ghost use Rattle.std.specs.List.{AllByRecursion};
 ghost use Rattle.fc_types.specs.Sound.{IsSound, IsSoundInside};
 ghost use Rattle.fc_types.specs.Types.{full_size, throughout};
 ghost use Rattle.fc_types.specs.declared.ty.Ty.{Ty};
@@ -10,6 +11,7 @@ ghost use Rattle.fc_value.specs.Keys.{has_no_keys};
 ghost use Rattle.fc_value.specs.Nodes.{are_apart, node_at, put_at};
 ghost use Rattle.fc_value.specs.Opening.{nearest, opening};
 ghost use Rattle.fc_value.specs.Reading.{full_in};
+ghost use Rattle.fc_value.specs.Trials.{FirstFailed, IsPassed, full_trials};
 ghost use Rattle.fc_value.specs.Writing.{full_bytes, inside_bytes};
 ghost use Rattle.fc_value.specs.declared.value.Value.{Value};
 
@@ -20,6 +22,13 @@ pub fn reading_is_the_form()
     ensures only { (ty : Ty) (v : Value) (bytes : List ℕ) → IsFull ty v bytes → full_in ty bytes ≡ Ok v }
     ensures fits { (ty : Ty) (v : Value) (bytes : List ℕ) → AreBytes bytes → IsFull ty v bytes → Fits ty v }
     ensures one { (ty : Ty) (v w : Value) (bytes : List ℕ) → IsFull ty v bytes → IsFull ty w bytes → v ≡ w }
+{}
+
+/// The code that reading gives is that of the first test that fails in the list of all tests in reading order, whatever
+/// the tests behind it say, and bytes are read exactly where none fails.
+pub fn codes_are_in_reading_order()
+    ensures first { (ty : Ty) (bytes : List ℕ) (code : ℕ) → (full_in ty bytes ≡ Err code) ↔ FirstFailed code (full_trials ty bytes) }
+    ensures read { (ty : Ty) (bytes : List ℕ) → ((v : Value) × (full_in ty bytes ≡ Ok v)) ↔ AllByRecursion IsPassed (full_trials ty bytes) }
 {}
 
 /// An opening value fits its type, and no number of a range is nearer to 0 than the one that it begins with.

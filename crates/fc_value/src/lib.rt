@@ -18,8 +18,8 @@ mod write;
 
 pub use key::{key_value, keys_differ};
 pub use laws::{
-    opening_values, other_places_stay, reading_is_the_form, sizes_bound_what_is_written,
-    written_values_are_read,
+    codes_are_in_reading_order, opening_values, other_places_stay, reading_is_the_form,
+    sizes_bound_what_is_written, written_values_are_read,
 };
 pub use live::Live;
 pub use nodes::{node, replace_node};
