@@ -34,6 +34,7 @@ abbrev pub Settles : {Config Op Subs M P C : Type 0} → Masters Op M P C → Wo
 Settles {Config} {Op} {Subs} {M} ms w =
     (k : ℕ) (m : M) (j : Job) (p : ℕ) → w.masters k ≡ Some m → In j (ms.core m).jobs → is_settled j ≡ true → among p j.parts ≡ true → (d : Decision) × (j.decision ≡ Some d) × In (Of_protocol (Settled_at p j.txn d)) w.facts
 
+-- what holds of a world
 pub record Headline {Config Op Subs M P C : Type 0} (g : Ground Config Op Subs) (ms : Masters Op M P C) (opening : Config) (w : World Config Op Subs M) : Type 0 where
   pub agree : Agree w.facts
   pub ready : Ready w.facts

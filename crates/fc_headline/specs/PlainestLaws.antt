@@ -44,6 +44,7 @@ all_back : (Op : Type 0) (ss : List Sent) → viewed {Op = Op} (all_spelled ss) 
 all_back Op [] = refl
 all_back Op (s ∷ ss) = ap (λ m. sent s.element s.controller m ∷ viewed {Op = Op} (all_spelled ss)) (view_back Op s.message) ∙ ap (λ v. s ∷ v) (all_back Op ss)
 
+-- the plainest masters do what the protocol says
 pub plainest_fit : (Op : Type 0) → MastersFit (plainest Op) (λ _. Unit {0})
 plainest_fit Op = record {
   born = λ e es. (tt, refl);
@@ -80,6 +81,7 @@ apart_pairs a b p q e f n =
     let all = by_guards (a.value == 0) (b.value == 0) a.is_first b.is_first a.value b.value m in
     record { code = λ c. (all c).0; back = λ c. (all c).1; state = λ c. (all c).2 }
 
+-- the two numbers are a lawful store
 pub pairs_lawful : Lawful pairs
 pairs_lawful = record {
   refused = λ c op n. refused_by (op.value == 0) c (set_part op.is_first c op.value) n;
@@ -120,6 +122,7 @@ each_spelled : (Op : Type 0) (x : Txn) (ss : List Sent) → AllByRecursion (Spel
 each_spelled Op x [] = tt
 each_spelled Op x (s ∷ ss) = (message_spelled Op x s.message, each_spelled Op x ss)
 
+-- the plainest masters spell a transaction as its plan says
 pub plainest_spell : (Op : Type 0) → MastersSpell (plainest Op) (λ _. Unit {0}) (λ _ _ _. Unit {0})
 plainest_spell Op = record {
   begins = λ k m plan g e. (tt, each_spelled Op (protocol.next_txn m) (protocol.finish k (protocol.begins m plan.parts plan.counts plan.scopes)).says);

@@ -11,9 +11,11 @@ use Rattle.fc_protocol.specs.Messages.{Stamp, Body, Claim, Sot, Mot, Eot, Trcomp
 
 -- A message of the protocol, spelled as plainly as can be
 
+-- a Config that asks for a response always, and has no operation
 abbrev pub spelled_config : {Op : Type 0} → Stamp → Body → Message Op
 spelled_config m b = Configure (record { stamp = m; ack = 3; mode = Some AllOrNone; lost = false; astray = false; body = b; shape = 16; ops = []; props = false; more = 0; bare = false })
 
+-- a request
 abbrev pub spelled_body : {Op : Type 0} → Stamp → Body → Message Op
 spelled_body m (Claim w) = spelled_config m (Claim w)
 spelled_body m (Sot x ps sc) = spelled_config m (Sot x ps sc)
@@ -27,6 +29,7 @@ spelled_body m Plain = spelled_config m Plain
 spelled_body m Ask = Query m false false Ask_held
 spelled_body m (Ask_record x) = Query m false false (Ask_one x)
 
+-- any message
 abbrev pub spelled : {Op : Type 0} → said.Message → Message Op
 spelled said.Setup = Setup
 spelled said.Beat = Beat true
@@ -38,10 +41,12 @@ spelled (said.Unread m e) = Says m (Told_unread e)
 spelled said.Other_up = Notice 0
 spelled said.Other_down = Accepted 0
 
+-- all of these messages
 abbrev pub all_spelled : {Op : Type 0} → List Sent → List (Parcel Op)
 all_spelled [] = []
 all_spelled (s ∷ ss) = record { element = s.element; controller = s.controller; message = spelled s.message } ∷ all_spelled ss
 
+-- a master that says first these messages and then those of the protocol
 abbrev pub spoke_of : {Op : Type 0} → List Sent → protocol.Speaks → Spoke Op protocol.Master
 spoke_of first r = record { master = r.master; says = all_spelled (first ++ r.says) }
 

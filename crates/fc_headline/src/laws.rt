@@ -1,6 +1,6 @@
 //! The laws of the machine of an element and of the world. Each function has no body: what it ensures holds of the definitions in specs/.
 
-ghost use Rattle.std.specs.Prelude.{◌≡◌, ℕ, true, List};
+ghost use Rattle.std.specs.Prelude.{◌≡◌, ℕ, true, List, take};
 ghost use Rattle.std.specs.List.{AllByRecursion};
 ghost use Rattle.fc_headline.specs.CleanRound.{CleanRound};
 ghost use Rattle.fc_headline.specs.Folds.{ElementFolds};
@@ -24,7 +24,8 @@ pub fn element_folds<G: Grounds>()
 /// At every moment of every script, whatever is lost, repeated or reordered, and whichever controllers and elements stop and return: no two elements settle one transaction differently; each that completes one had every participant prepared; each
 /// settled configuration is the fold of what its element has completed; a Config of a life below an element's epoch changes nothing there; and what a master counts as settled was settled so at every participant.
 pub fn headline<G: Grounds>()
-    ensures { (opening : G.Config) (subs : G.Subs) (n : Network) (steps : List (Step G.Plan G.Change)) → Headline G.basis G.masters opening (run G.basis G.masters steps (first_world opening subs n)) }
+    ensures whole { (opening : G.Config) (subs : G.Subs) (n : Network) (steps : List (Step G.Plan G.Change)) → Headline G.basis G.masters opening (run G.basis G.masters steps (first_world opening subs n)) }
+    ensures moments { (opening : G.Config) (subs : G.Subs) (n : Network) (steps : List (Step G.Plan G.Change)) (k : ℕ) → Headline G.basis G.masters opening (run G.basis G.masters (take k steps) (first_world opening subs n)) }
 {}
 
 /// Whatever arrives at an element, with any bytes, it becomes what the protocol says, says what the protocol says, and gives the facts that the protocol gives, in the circumstance that its state and the message make; and where the response
