@@ -1,14 +1,15 @@
 -- A change of an entry, and what undoes it.
-use Rattle.std.proofs.Common.{◌≡◌, ℕ, zero, suc, ◌+◌, ◌-◌, ◌<◌, ◌≤◌, Bool, true, false, cond, T, List, [], ◌∷◌, ◌++◌, length, map, drop, slice_get, slice_set, slice_index_or, OnOk, OnErr, Result, Ok, Err, refl, sym, ap, subst, ◌∙◌, arith, Option, Some, None, is_some, length-append}
+use Rattle.std.proofs.Common.{◌≡◌, ℕ, zero, suc, ◌+◌, ◌-◌, ◌<◌, ◌≤◌, Bool, true, false, cond, T, List, [], ◌∷◌, ◌++◌, length, map, drop, slice_get, slice_set, slice_index_or, IfOk, OnOk, OnErr, Result, Ok, Err, refl, sym, ap, subst, ◌∙◌, arith, Option, Some, None, option_map, is_some, length-append}
 use Rattle.std.specs.Ordering.{nat_cmp, eq_by_cmp}
 use Rattle.std.specs.Cmp.{nat_cmp_total, unsigned_tied}
 use Rattle.std.specs.FinMap as finmap
 use Rattle.std.specs.FinMap.{entries, entries_sorted, from_sorted, entries-from_sorted, same_entries_map, same_map, nat_cmp-IsAntisymmetric, get, get-insert, get-remove, len, len-insert, len-remove}
 use Rattle.fc_value.specs.declared.value.Value.TheOpen.{Value-F}
 use Rattle.fc_value.specs.declared.value.Value.TheViews.{out-roll-Value, rolls-Table}
+use Rattle.fc_value.specs.Keys.{keys_differ}
 use Rattle.fc_tree.specs.Finding.{entries_layer, entries_of}
-use Rattle.fc_store.specs.Histories.{AreHeld, AreRoomier, CanUndo, Fits, FitsAt, HasPlace, HasRoom, IsArray, IsRoomier, IsRoomyArray, Undoable, at_slot, entry_at, entry_in, entry_put, put_among, slot_value, swapped, undo, undone, values_at, values_of, with_entry}
-use Rattle.fc_store.specs.Rowed.{CanSwap, KeysFit, RowMap, Shape, updated}
+use Rattle.fc_store.specs.Histories.{AreHeld, AreRoomier, CanUndo, Fits, FitsAt, FoundKeys, HasPlace, HasRoom, Cell, Values, takes, IsArray, IsRoomier, IsRoomyArray, Undoable, at_slot, entry_at, entry_in, entry_put, put_among, slot_cell, swapped, undo, undone, values_at, values_of, with_entry}
+use Rattle.fc_store.specs.Rowed.{CanSwap, KeysFit, Prepared, RowMap, Seen, Shape, updated}
 use Rattle.fc_store.specs.declared.instance.Inverse.{Inverse}
 use Rattle.fc_store.specs.declared.instance.Inverse.TheVariants as inverse
 use Rattle.fc_store.specs.declared.instance.Row.{Row}
@@ -53,16 +54,16 @@ pub map_again : (m : RowMap) → from_sorted (entries m) ≡ m
 map_again m = same_entries_map _ _ (entries-from_sorted nat_cmp (entries m) (entries_sorted m))
 
 -- ---- more room
-same_value : (s t : Slot) → IsRoomier s t → slot_value t ≡ slot_value s
+same_value : (s t : Slot) → IsRoomier s t → slot_cell t ≡ slot_cell s
 same_value slot.Absent slot.Absent r = refl
 same_value slot.Absent (slot.Whole v) r = absurd r
 same_value slot.Absent (slot.Entries b) r = absurd r
 same_value (slot.Whole v) slot.Absent r = absurd r
-same_value (slot.Whole v) (slot.Whole w) r = ap Some r
+same_value (slot.Whole v) (slot.Whole w) r = ap (λ (x : Value). Some (x, None)) r
 same_value (slot.Whole v) (slot.Entries b) r = absurd r
 same_value (slot.Entries a) slot.Absent r = absurd r
 same_value (slot.Entries a) (slot.Whole w) r = absurd r
-same_value (slot.Entries a) (slot.Entries b) r = ap (λ (m : RowMap). Some (value.Table (entries m))) r.0
+same_value (slot.Entries a) (slot.Entries b) r = λ i. Some (value.Table (entries (r.0 i)), Some (r.2 i))
 
 pub same_values : (ss ts : List Slot) → AreRoomier ss ts → values_of ts ≡ values_of ss
 same_values [] [] r = refl
@@ -286,23 +287,23 @@ held_changed ss ts new before mid log c s v row r u m o n h l =
     }
 
 -- ---- the values after a change
-map-set : (ss : List Slot) (c : ℕ) (t : Slot) → values_of (slice_set ss c t) ≡ slice_set (values_of ss) c (slot_value t)
+map-set : (ss : List Slot) (c : ℕ) (t : Slot) → values_of (slice_set ss c t) ≡ slice_set (values_of ss) c (slot_cell t)
 map-set [] c t = refl
 map-set (s ∷ ss) zero t = refl
-map-set (s ∷ ss) (suc c) t = ap (λ vs. slot_value s ∷ vs) (map-set ss c t)
+map-set (s ∷ ss) (suc c) t = ap (λ vs. slot_cell s ∷ vs) (map-set ss c t)
 
-map-get : (ss : List Slot) (c : ℕ) (s : Slot) → slice_get ss c ≡ Some s → slice_get (values_of ss) c ≡ Some (slot_value s)
+map-get : (ss : List Slot) (c : ℕ) (s : Slot) → slice_get ss c ≡ Some s → slice_get (values_of ss) c ≡ Some (slot_cell s)
 map-get [] c s e = cc
-map-get (x ∷ ss) zero s e = let q : x ≡ s = cc e in ap (λ y. Some (slot_value y)) q
+map-get (x ∷ ss) zero s e = let q : x ≡ s = cc e in ap (λ y. Some (slot_cell y)) q
 map-get (x ∷ ss) (suc c) s e = map-get ss c s e
 
 table_again : (es : List (ℕ × Value)) → entries_of (value.Table es) ≡ es
 table_again es = ap (λ v. entries_of v) (sym (rolls-Table es)) ∙ ap (λ l. entries_layer l) (out-roll-Value (Value-F.Table es))
 
-value_put : (s : ℕ) (v : Option Value) (t : Slot) → IsRoomyArray (Some t) → slot_value (swapped s v t) ≡ entry_put s v (slot_value t)
+value_put : (s : ℕ) (v : Option Value) (t : Slot) → IsRoomyArray (Some t) → slot_cell (swapped s v t) ≡ entry_put s v (slot_cell t)
 value_put s v slot.Absent h = absurd h
 value_put s v (slot.Whole w) h = absurd h
-value_put s v (slot.Entries a) h = ap (λ (m : RowMap). Some (value.Table (entries (updated m s v)))) (sym (ap (λ (es : List (ℕ × Value)). from_sorted es) (table_again (entries a.0)) ∙ map_again a.0))
+value_put s v (slot.Entries a) h = ap (λ (m : RowMap). Some (value.Table (entries (updated m s v)), Some a.1.1)) (sym (ap (λ (es : List (ℕ × Value)). from_sorted es) (table_again (entries a.0)) ∙ map_again a.0))
 
 values_put : (ss : List Slot) (c s : ℕ) (v : Option Value) (o : Option Slot) → slice_get ss c ≡ o → IsRoomyArray o
     → values_of (at_slot (swapped s v) c ss o) ≡ put_among c s v (values_of ss) (slice_get (values_of ss) c)
@@ -335,7 +336,7 @@ held_whole ss new before mid log c t old lt u m o n l =
     set_length (s ∷ ss) zero t = refl
     set_length (s ∷ ss) (suc c) t = ap suc (set_length ss c t)
 
-pub whole_values : (ss new : List Slot) (c : ℕ) (t : Slot) → new ≡ slice_set ss c t → values_of new ≡ slice_set (values_of ss) c (slot_value t)
+pub whole_values : (ss new : List Slot) (c : ℕ) (t : Slot) → new ≡ slice_set ss c t → values_of new ≡ slice_set (values_of ss) c (slot_cell t)
 whole_values ss new c t n = ap values_of n ∙ map-set ss c t
 
 pub held_same : (ss : List Slot) (before log : List Inverse) → log ≡ before → Undoable before ss → AreHeld ss before ss log
@@ -351,5 +352,57 @@ values_length : (ss : List Slot) → length (values_of ss) ≡ length ss
 values_length [] = refl
 values_length (s ∷ ss) = ap suc (values_length ss)
 
-pub within_slots : (vs : List (Option Value)) (ss : List Slot) (c : ℕ) → values_of ss ≡ vs → c < length vs → c < length ss
+pub within_slots : (vs : Values) (ss : List Slot) (c : ℕ) → values_of ss ≡ vs → c < length vs → c < length ss
 within_slots vs ss c e lt = let n : length vs ≡ length ss = ap (λ xs. length xs) (sym e) ∙ values_length ss in omega arith
+
+-- whether an array takes an entry, as its rows tell it
+taken : (s : ℕ) (v : Option Value) (m : RowMap) (shape : Shape) (b : Bool) → keys_differ shape.0 shape.1 (entries (updated m s v)) ≡ b → takes s v (Some (Some (value.Table (entries m), Some shape))) ≡ b
+taken s v m shape b e = ap (λ (n : RowMap). keys_differ shape.0 shape.1 (entries (updated n s v))) (ap (λ (es : List (ℕ × Value)). from_sorted es) (table_again (entries m)) ∙ map_again m) ∙ e
+
+pub not_taken : (s : ℕ) (v : Option Value) (m : RowMap) (shape : Shape) → keys_differ shape.0 shape.1 (entries (updated m s v)) ≡ false → takes s v (Some (Some (value.Table (entries m), Some shape))) ≡ false
+not_taken s v m shape e = taken s v m shape false e
+
+taken_by : (s : ℕ) (v : Option Value) (entering leaving : List (List ℕ)) (t : Slot) → Fits s v entering leaving t → takes s v (Some (slot_cell t)) ≡ true
+taken_by s v entering leaving slot.Absent h = absurd h
+taken_by s v entering leaving (slot.Whole w) h = absurd h
+taken_by s v entering leaving (slot.Entries a) h = taken s v a.0 a.1.1 true h.apart
+
+cells_get : (ss : List Slot) (c : ℕ) → slice_get (values_of ss) c ≡ option_map slot_cell (slice_get ss c)
+cells_get [] c = refl
+cells_get (s ∷ ss) zero = refl
+cells_get (s ∷ ss) (suc c) = cells_get ss c
+
+taken_at : (s : ℕ) (v : Option Value) (entering leaving : List (List ℕ)) (o : Option Slot) → FitsAt s v entering leaving o → takes s v (option_map slot_cell o) ≡ true
+taken_at s v entering leaving None h = absurd h
+taken_at s v entering leaving (Some t) h = taken_by s v entering leaving t h
+
+-- where keys fit, the array takes the entry
+pub fit_taken : (vs : Values) (ss : List Slot) (s c : ℕ) (v : Option Value) (entering leaving : List (List ℕ)) → values_of ss ≡ vs → FitsAt s v entering leaving (slice_get ss c) → takes s v (slice_get vs c) ≡ true
+fit_taken vs ss s c v entering leaving e h = ap (λ (xs : Values). takes s v (slice_get xs c)) (sym e) ∙ ap (takes s v) (cells_get ss c) ∙ taken_at s v entering leaving (slice_get ss c) h
+
+-- and where none are found, it does not
+pub none_taken : (vs : Values) (ss : List Slot) (s c : ℕ) (v : Option Value) → values_of ss ≡ vs → takes s v (option_map slot_cell (slice_get ss c)) ≡ false → takes s v (slice_get vs c) ≡ false
+none_taken vs ss s c v e h = ap (λ (xs : Values). takes s v (slice_get xs c)) (sym e) ∙ ap (takes s v) (cells_get ss c) ∙ h
+
+found_one : (s : ℕ) (v : Option Value) (rows : Seen) (o : Option (List (List ℕ) × List (List ℕ))) → Prepared rows.1.1 rows.0 s v o → FoundKeys s v (Some (slot.Entries rows)) o
+found_one s v rows None h = not_taken s v rows.0 rows.1.1 h
+found_one s v rows (Some x) h = h
+
+-- the keys that rows give are those of the component
+pub found_by : {E : Type 0} (s : ℕ) (v : Option Value) (t : Slot) (rows : Seen) (r : Result (Option (List (List ℕ) × List (List ℕ))) E) → t ≡ slot.Entries rows
+    → IfOk r (λ o. Prepared rows.1.1 rows.0 s v o) → IfOk r (λ o. FoundKeys s v (Some t) o)
+found_by s v t rows (Ok o) e h = subst (λ (x : Slot). FoundKeys s v (Some x) o) (sym e) (found_one s v rows o h)
+found_by s v t rows (Err x) e h = tt
+
+-- what is answered where keys are found, and where none are
+pub none_done : (vs : Values) (ss part : List Slot) (s c : ℕ) (v w : Option Value) (o : Option (List (List ℕ) × List (List ℕ))) → values_of ss ≡ vs → part ≡ ss → w ≡ v → o ≡ None
+    → FoundKeys s w (slice_get part c) o → false ≡ takes s v (slice_get vs c)
+none_done vs ss part s c v w o e p q n h =
+    let found : FoundKeys s w (slice_get part c) None = subst (λ x. FoundKeys s w (slice_get part c) x) n h in
+    sym (ap (λ (x : Option Value). takes s x (slice_get vs c)) (sym q) ∙ none_taken vs part s c w (ap values_of p ∙ e) found)
+
+pub some_done : (vs : Values) (ss part : List Slot) (s c : ℕ) (v w : Option Value) (o : Option (List (List ℕ) × List (List ℕ))) (entering leaving : List (List ℕ)) → values_of ss ≡ vs → part ≡ ss → w ≡ v
+    → o ≡ Some (entering, leaving) → FoundKeys s w (slice_get part c) o → true ≡ takes s v (slice_get vs c)
+some_done vs ss part s c v w o entering leaving e p q n h =
+    let found : FoundKeys s w (slice_get part c) (Some (entering, leaving)) = subst (λ x. FoundKeys s w (slice_get part c) x) n h in
+    sym (ap (λ (x : Option Value). takes s x (slice_get vs c)) (sym q) ∙ fit_taken vs part s c w entering leaving (ap values_of p ∙ e) found)

@@ -1,5 +1,5 @@
 -- What an instance holds, and how changes of it are undone. This profile's own.
-use Rattle.std.specs.Prelude.{◌≡◌, ◌<◌, ◌≤◌, ◌+◌, ℕ, List, [], ◌∷◌, length, map, drop, slice_get, slice_set, Option, Some, None, refl}
+use Rattle.std.specs.Prelude.{◌≡◌, ◌<◌, ◌≤◌, ◌+◌, ℕ, Bool, true, false, option_map, List, [], ◌∷◌, length, map, drop, slice_get, slice_set, Option, Some, None, refl}
 use Rattle.std.specs.Coded.{Coded, code_by, coded×, coded_list, coded_option}
 use Rattle.fc_value.specs.contracts.value.Value as contracts
 use Rattle.std.specs.List.{AllByRecursion}
@@ -7,7 +7,8 @@ use Rattle.std.specs.FinMap.{entries, from_sorted, get, len}
 use Rattle.fc_value.specs.declared.value.Value.{Value}
 use Rattle.fc_value.specs.declared.value.Value.TheVariants as value
 use Rattle.fc_tree.specs.Finding.{entries_of}
-use Rattle.fc_store.specs.Rowed.{CanSwap, KeysFit, RowMap, updated}
+use Rattle.fc_value.specs.Keys.{keys_differ}
+use Rattle.fc_store.specs.Rowed.{CanSwap, KeysFit, RowMap, Shape, shape_code, updated}
 use Rattle.fc_store.specs.declared.instance.Row.{Row}
 use Rattle.fc_store.specs.declared.instance.Slot.{Slot}
 use Rattle.fc_store.specs.declared.instance.Slot.TheVariants as slot
@@ -20,12 +21,21 @@ slot_value slot.Absent = None
 slot_value (slot.Whole v) = Some v
 slot_value (slot.Entries rows) = Some (value.Table (entries rows.0))
 
--- the values of the components, in their order
+-- what is seen of a component that has a value: that value, and of an array also what tells its entries apart
+abbrev pub Cell : Type 0
+Cell = Value × Option Shape
+
+abbrev pub slot_cell : Slot → Option Cell
+slot_cell slot.Absent = None
+slot_cell (slot.Whole v) = Some (v, None)
+slot_cell (slot.Entries rows) = Some (value.Table (entries rows.0), Some rows.1.1)
+
+-- the components in their order
 abbrev pub Values : Type 0
-Values = List (Option Value)
+Values = List (Option Cell)
 
 abbrev pub values_of : List Slot → Values
-values_of = map slot_value
+values_of = map slot_cell
 
 abbrev pub swapped : ℕ → Option Value → Slot → Slot
 swapped s v (slot.Entries rows) = slot.Entries (updated rows.0 s v, rows.1)
@@ -93,7 +103,7 @@ abbrev pub seen : List Slot → List Inverse → List ℕ → Held
 seen slots log marks = record { now = values_of slots; held = map (values_at log slots) marks }
 
 abbrev pub values_code : Coded Values
-values_code = coded_list (coded_option contracts.the_row.coded)
+values_code = coded_list (coded_option (coded× contracts.the_row.coded (coded_option shape_code)))
 
 abbrev pub held_code : Coded Held
 held_code = code_by (Values × List Values) (coded× values_code (coded_list values_code)) (λ h. (h.now, h.held)) (λ p. record { now = p.0; held = p.1 }) (λ _. refl)
@@ -126,6 +136,23 @@ abbrev pub HasPlace : Slot → Type 0
 HasPlace (slot.Entries rows) = len rows.0 + 1 ≤ rows.1.0
 HasPlace _ = Unit {0}
 
+-- the entries of a value that is an array, as a map
+abbrev pub rows_of : Value → RowMap
+rows_of v = from_sorted (entries_of v)
+
+abbrev pub differ_with : ℕ → Option Value → Value → Option Shape → Bool
+differ_with s v w None = false
+differ_with s v w (Some shape) = keys_differ shape.0 shape.1 (entries (updated (rows_of w) s v))
+
+abbrev pub takes_in : ℕ → Option Value → Option Cell → Bool
+takes_in s v None = false
+takes_in s v (Some cell) = differ_with s v cell.0 cell.1
+
+-- whether a component is an array whose entries differ in each key with another one, or none, at a subscript
+abbrev pub takes : ℕ → Option Value → Option (Option Cell) → Bool
+takes s v None = false
+takes s v (Some cell) = takes_in s v cell
+
 -- the keys of an array are those that enter and those that leave
 abbrev pub Fits : ℕ → Option Value → List (List ℕ) → List (List ℕ) → Slot → Type 0
 Fits s v entering leaving (slot.Entries rows) = KeysFit rows.1.1 rows.0 s v entering leaving
@@ -135,8 +162,9 @@ abbrev pub FitsAt : ℕ → Option Value → List (List ℕ) → List (List ℕ)
 FitsAt s v entering leaving None = ⊥
 FitsAt s v entering leaving (Some slot) = Fits s v entering leaving slot
 
+-- the keys that enter and those that leave, or none, where it is no array or another entry has a key of the new one
 abbrev pub FoundKeys : ℕ → Option Value → Option Slot → Option (List (List ℕ) × List (List ℕ)) → Type 0
-FoundKeys s v slot None = Unit {0}
+FoundKeys s v slot None = takes s v (option_map slot_cell slot) ≡ false
 FoundKeys s v slot (Some x) = FitsAt s v x.0 x.1 slot
 
 abbrev pub entry_at : ℕ → Slot → Option Value
@@ -147,15 +175,11 @@ abbrev pub entry_in : ℕ → Option Slot → Option Value
 entry_in s None = None
 entry_in s (Some slot) = entry_at s slot
 
--- the entries of a value that is an array, as a map
-abbrev pub rows_of : Value → RowMap
-rows_of v = from_sorted (entries_of v)
-
-abbrev pub entry_put : ℕ → Option Value → Option Value → Option Value
+abbrev pub entry_put : ℕ → Option Value → Option Cell → Option Cell
 entry_put s v None = None
-entry_put s v (Some w) = Some (value.Table (entries (updated (rows_of w) s v)))
+entry_put s v (Some cell) = Some (value.Table (entries (updated (rows_of cell.0) s v)), cell.1)
 
-abbrev pub put_among : ℕ → ℕ → Option Value → Values → Option (Option Value) → Values
+abbrev pub put_among : ℕ → ℕ → Option Value → Values → Option (Option Cell) → Values
 put_among c s v vs None = vs
 put_among c s v vs (Some w) = slice_set vs c (entry_put s v w)
 
