@@ -1,0 +1,6 @@
+pub mod Changing
+pub mod ColumnLaws
+pub mod IndexKeys
+pub mod RowPlaces
+pub mod Scoped
+pub mod Undoing

@@ -1,0 +1,6 @@
+pub mod Columns
+pub mod Histories
+pub mod Indexing
+pub mod Lent
+pub mod Rowed
+pub mod Scopes

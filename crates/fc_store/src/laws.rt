@@ -1,0 +1,27 @@
+// Laws of the store.
+ghost use Rattle.std.specs.Prelude.{◌≡◌, ℕ, List, Option, option_map, bytes_eq, true, not, is_some, Some};
+ghost use Rattle.fc_types.specs.Ids.{is_distinct};
+ghost use Rattle.std.specs.FinMap as map;
+ghost use Rattle.fc_keys.specs.Keys.{KeyMap};
+ghost use Rattle.fc_value.specs.declared.value.Value.{Value as Valued};
+ghost use Rattle.fc_keys.specs.Indexing.{Indexes, less_key};
+ghost use Rattle.fc_store.specs.Indexing.{keys_of};
+ghost use Rattle.fc_store.specs.Rowed.{RowMap, updated};
+ghost use Rattle.fc_store.specs.Histories.{Held};
+ghost use Rattle.fc_store.specs.Scopes.{at};
+
+/// Changes of different instances may be made in either order.
+pub fn instances_apart()
+    ensures { (f g : Held → Held) (i j : ℕ) (hs : List Held) → (i ≡ j → ⊥) → at g j (at f i hs) ≡ at f i (at g j hs) }
+{}
+
+/// Entries that have an index by a key differ in that key.
+pub fn indexed_entries_differ()
+    ensures { (key : Valued → List ℕ) (m : RowMap) (index : KeyMap) → Indexes key m index → is_distinct bytes_eq (keys_of key (map.entries m)) ≡ true }
+{}
+
+/// The test by an index is that by all entries: with another entry at a subscript they differ in the key exactly where the index,
+/// without the key of what stood there, does not have the key of the new one.
+pub fn an_index_tells()
+    ensures { (key : Valued → List ℕ) (m : RowMap) (index : KeyMap) (s : ℕ) (w : Valued) (old : Option Valued) → Indexes key m index → map.get m s ≡ old → is_distinct bytes_eq (keys_of key (map.entries (updated m s (Some w)))) ≡ not (is_some (map.get (less_key index (option_map key old)) (key w))) }
+{}

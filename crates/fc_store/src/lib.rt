@@ -1,0 +1,16 @@
+//! The components of the instances of an element.
+#![tactic(auto)]
+
+mod columns;
+mod instance;
+mod laws;
+mod nodes;
+mod rows;
+mod scopes;
+
+pub use columns::Rows;
+pub use instance::{Instance, Inverse, Row, Slot};
+pub use laws::{an_index_tells, indexed_entries_differ, instances_apart};
+pub use nodes::{Node, whole};
+pub use rows::RowList;
+pub use scopes::Scopes;
