@@ -1,59 +1,59 @@
 -- That the plainest masters and the plainest configuration keep the laws; a trait can be kept only by what stands in specs/. This profile's own.
-use Rattle.std.proofs.Common.{◌≡◌, ◌≢◌, ℕ, ◌==◌, Bool, true, false, cond, List, [], ◌∷◌, ◌++◌, Some, None, refl, sym, ap, ◌∙◌, eqb-true}
+use Rattle.std.proofs.Common.{◌≡◌, ◌≢◌, ℕ, ◌==◌, ◌&&◌, Bool, true, false, cond, List, [], ◌∷◌, ◌++◌, Some, None, refl, sym, ap, ◌∙◌, eqb-true, eq-eqb}
 use Rattle.std.specs.List.{AllByRecursion}
 use Rattle.fc_base.specs.Ids.{Txn}
 use Rattle.fc_machine.specs.Ground.{Place, Lawful, Commute}
 use Rattle.fc_machine.specs.Plainest.{Pair, Set, set_part, set_effect, part_place, pairs}
-use Rattle.fc_headline.specs.PlainestMasters.{spelled, spelled_body, all_spelled, plainest}
+use Rattle.fc_headline.specs.PlainestMasters.{spelled, spelled_body, all_spelled, with_changes, plainest}
 use Rattle.fc_machine.specs.Views.{view}
 use Rattle.fc_machine.specs.WorldSteps.{viewed, MastersFit, SpelledMessage, Spelled, MastersSpell}
 use Rattle.fc_protocol.specs.Scopes.{same_place}
 use Rattle.fc_protocol.specs.MasterMachine as protocol
 use Rattle.fc_protocol.specs.Messages as said
-use Rattle.fc_protocol.specs.Messages.{Stamp, Body, Claim, Sot, Mot, Eot, Trcomp, Abt, Floor, Malformed, Plain, Ask, Ask_record, Sent, sent}
+use Rattle.fc_protocol.specs.Messages.{same, Stamp, Body, Claim, Sot, Mot, Eot, Trcomp, Abt, Floor, Malformed, Plain, Ask, Ask_record, Sent, sent}
 
-body_back : (Op : Type 0) (m : Stamp) (b : Body) → view {Op = Op} (spelled_body m b) ≡ said.Request m b
-body_back Op m (Claim w) = refl
-body_back Op m (Sot x ps sc) = refl
-body_back Op m (Mot x i) = refl
-body_back Op m (Eot x) = refl
-body_back Op m (Trcomp x) = refl
-body_back Op m (Abt x) = refl
-body_back Op m (Floor f) = refl
-body_back Op m Malformed = refl
-body_back Op m Plain = refl
-body_back Op m Ask = refl
-body_back Op m (Ask_record x) = refl
+body_back : (Op : Type 0) (f : Txn → ℕ → List Op) (m : Stamp) (b : Body) → view (spelled_body f m b) ≡ said.Request m b
+body_back Op f m (Claim w) = refl
+body_back Op f m (Sot x ps sc) = refl
+body_back Op f m (Mot x i) = refl
+body_back Op f m (Eot x) = refl
+body_back Op f m (Trcomp x) = refl
+body_back Op f m (Abt x) = refl
+body_back Op f m (Floor y) = refl
+body_back Op f m Malformed = refl
+body_back Op f m Plain = refl
+body_back Op f m Ask = refl
+body_back Op f m (Ask_record x) = refl
 
 one_if : (b : Bool) (c : ℕ) → (c == 0) ≡ b → cond b 0 c ≡ c
 one_if true c e = sym (eqb-true c 0 e)
 one_if false c e = refl
 
-view_back : (Op : Type 0) (m : said.Message) → view {Op = Op} (spelled m) ≡ m
-view_back Op said.Setup = refl
-view_back Op said.Beat = refl
-view_back Op (said.Request m b) = body_back Op m b
-view_back Op (said.Reply m code) = ap (said.Reply m) (one_if (code == 0) code refl)
-view_back Op (said.Holds m e ns) = refl
-view_back Op (said.Tells m x e s) = refl
-view_back Op (said.Unread m e) = refl
-view_back Op said.Other_up = refl
-view_back Op said.Other_down = refl
+view_back : (Op : Type 0) (f : Txn → ℕ → List Op) (m : said.Message) → view (spelled f m) ≡ m
+view_back Op f said.Setup = refl
+view_back Op f said.Beat = refl
+view_back Op f (said.Request m b) = body_back Op f m b
+view_back Op f (said.Reply m code) = ap (said.Reply m) (one_if (code == 0) code refl)
+view_back Op f (said.Holds m e ns) = refl
+view_back Op f (said.Tells m x e s) = refl
+view_back Op f (said.Unread m e) = refl
+view_back Op f said.Other_up = refl
+view_back Op f said.Other_down = refl
 
-all_back : (Op : Type 0) (ss : List Sent) → viewed {Op = Op} (all_spelled ss) ≡ ss
-all_back Op [] = refl
-all_back Op (s ∷ ss) = ap (λ m. sent s.element s.controller m ∷ viewed {Op = Op} (all_spelled ss)) (view_back Op s.message) ∙ ap (λ v. s ∷ v) (all_back Op ss)
+all_back : (Op : Type 0) (f : Txn → ℕ → ℕ → List Op) (ss : List Sent) → viewed (all_spelled f ss) ≡ ss
+all_back Op f [] = refl
+all_back Op f (s ∷ ss) = ap (λ m. sent s.element s.controller m ∷ viewed (all_spelled f ss)) (view_back Op (λ x. f x s.element) s.message) ∙ ap (λ v. s ∷ v) (all_back Op f ss)
 
 -- the plainest masters do what the protocol says
 pub plainest_fit : (Op : Type 0) → MastersFit (plainest Op) (λ _. Unit {0})
 plainest_fit Op = record {
   born = λ e es. (tt, refl);
-  hears = λ k m p x g. (tt, refl, all_back Op (protocol.at_once k m p (view x) ++ (protocol.finish k (protocol.heard m p (view x))).says));
-  begins = λ k m plan g. (tt, record { refused = refl; core = refl; says = all_back Op (protocol.finish k (protocol.begins m plan.parts plan.counts plan.scopes)).says });
-  changes = λ k m p c g. (tt, record { refused = refl; core = refl; says = all_back Op (protocol.sends_one k m p (Some Plain)).says });
-  gives_up = λ k m x g. (tt, record { refused = refl; core = refl; says = all_back Op (protocol.finish k (protocol.gives_up m x)).says });
-  forgets = λ k m g. (tt, record { refused = refl; core = refl; says = all_back Op (protocol.finish k (protocol.forgets m)).says });
-  resends = λ k m p g. all_back Op (protocol.again k p (m.at p).waits);
+  hears = λ k m p x g. (tt, refl, all_back Op m.changes (protocol.at_once k m.core p (view x) ++ (protocol.finish k (protocol.heard m.core p (view x))).says));
+  begins = λ k m plan g. (tt, record { refused = refl; core = refl; says = all_back Op (with_changes (protocol.next_txn m.core) plan.changes m.changes) (protocol.finish k (protocol.begins m.core plan.parts plan.counts plan.scopes)).says });
+  changes = λ k m p c g. (tt, record { refused = refl; core = refl; says = all_back Op m.changes (protocol.sends_one k m.core p (Some Plain)).says });
+  gives_up = λ k m x g. (tt, record { refused = refl; core = refl; says = all_back Op m.changes (protocol.finish k (protocol.gives_up m.core x)).says });
+  forgets = λ k m g. (tt, record { refused = refl; core = refl; says = all_back Op m.changes (protocol.finish k (protocol.forgets m.core)).says });
+  resends = λ k m p g. all_back Op m.changes (protocol.again k p (m.core.at p).waits);
 }
 
 -- The configuration of two numbers
@@ -94,37 +94,51 @@ pairs_lawful = record {
 
 -- Their spelling
 
-body_spelled : (Op : Type 0) (x : Txn) (m : Stamp) (b : Body) → SpelledMessage x (λ i. []) (spelled_body {Op = Op} m b)
-body_spelled Op x m (Claim w) = tt
-body_spelled Op x m (Sot y ps sc) = λ e. (record { lost = refl; astray = refl; mode = refl; ack = refl }, refl)
-body_spelled Op x m (Mot y i) = λ e. (record { lost = refl; astray = refl; mode = refl; ack = refl }, refl)
-body_spelled Op x m (Eot y) = λ e. record { lost = refl; astray = refl; mode = refl; ack = refl }
-body_spelled Op x m (Trcomp y) = λ e. record { lost = refl; astray = refl; mode = refl; ack = refl }
-body_spelled Op x m (Abt y) = tt
-body_spelled Op x m (Floor f) = tt
-body_spelled Op x m Malformed = tt
-body_spelled Op x m Plain = tt
-body_spelled Op x m Ask = tt
-body_spelled Op x m (Ask_record y) = tt
+body_spelled : (Op : Type 0) (f : Txn → ℕ → List Op) (x : Txn) (h : ℕ → List Op) (m : Stamp) (b : Body) → f x ≡ h → SpelledMessage x h (spelled_body f m b)
+body_spelled Op f x h m (Claim w) d = tt
+body_spelled Op f x h m (Sot y ps sc) d = λ e. (record { lost = refl; astray = refl; mode = refl; ack = refl }, refl)
+body_spelled Op f x h m (Mot y i) d = λ e. (record { lost = refl; astray = refl; mode = refl; ack = refl }, ap (λ z. f z i) e ∙ ap (λ (z : ℕ → List Op). z i) d)
+body_spelled Op f x h m (Eot y) d = λ e. record { lost = refl; astray = refl; mode = refl; ack = refl }
+body_spelled Op f x h m (Trcomp y) d = λ e. record { lost = refl; astray = refl; mode = refl; ack = refl }
+body_spelled Op f x h m (Abt y) d = tt
+body_spelled Op f x h m (Floor y) d = tt
+body_spelled Op f x h m Malformed d = tt
+body_spelled Op f x h m Plain d = tt
+body_spelled Op f x h m Ask d = tt
+body_spelled Op f x h m (Ask_record y) d = tt
 
-message_spelled : (Op : Type 0) (x : Txn) (m : said.Message) → SpelledMessage x (λ i. []) (spelled {Op = Op} m)
-message_spelled Op x said.Setup = tt
-message_spelled Op x said.Beat = tt
-message_spelled Op x (said.Request m b) = body_spelled Op x m b
-message_spelled Op x (said.Reply m code) = tt
-message_spelled Op x (said.Holds m e ns) = tt
-message_spelled Op x (said.Tells m y e s) = tt
-message_spelled Op x (said.Unread m e) = tt
-message_spelled Op x said.Other_up = tt
-message_spelled Op x said.Other_down = tt
+message_spelled : (Op : Type 0) (f : Txn → ℕ → List Op) (x : Txn) (h : ℕ → List Op) (m : said.Message) → f x ≡ h → SpelledMessage x h (spelled f m)
+message_spelled Op f x h said.Setup d = tt
+message_spelled Op f x h said.Beat d = tt
+message_spelled Op f x h (said.Request m b) d = body_spelled Op f x h m b d
+message_spelled Op f x h (said.Reply m code) d = tt
+message_spelled Op f x h (said.Holds m e ns) d = tt
+message_spelled Op f x h (said.Tells m y e s) d = tt
+message_spelled Op f x h (said.Unread m e) d = tt
+message_spelled Op f x h said.Other_up d = tt
+message_spelled Op f x h said.Other_down d = tt
 
-each_spelled : (Op : Type 0) (x : Txn) (ss : List Sent) → AllByRecursion (Spelled x (λ p i. [])) (all_spelled {Op = Op} ss)
-each_spelled Op x [] = tt
-each_spelled Op x (s ∷ ss) = (message_spelled Op x s.message, each_spelled Op x ss)
+each_spelled : (Op : Type 0) (f : Txn → ℕ → ℕ → List Op) (x : Txn) (h : ℕ → ℕ → List Op) (ss : List Sent) → f x ≡ h → AllByRecursion (Spelled x h) (all_spelled f ss)
+each_spelled Op f x h [] d = tt
+each_spelled Op f x h (s ∷ ss) d = (message_spelled Op (λ y. f y s.element) x (h s.element) s.message (ap (λ (z : ℕ → ℕ → List Op). z s.element) d), each_spelled Op f x h ss d)
+
+both_true : (a b : Bool) → a ≡ true → b ≡ true → (a && b) ≡ true
+both_true true b e f = f
+both_true false b e f = cc
+
+itself : (x : Txn) → same x x ≡ true
+itself x = both_true (x.epoch == x.epoch) (x.number == x.number) (eq-eqb x.epoch x.epoch refl) (eq-eqb x.number x.number refl)
+
+chosen : {A : Type 0} (b : Bool) (v w : A) → b ≡ true → cond b v w ≡ v
+chosen true v w e = refl
+chosen false v w e = cc
 
 -- the plainest masters spell a transaction as its plan says
-pub plainest_spell : (Op : Type 0) → MastersSpell (plainest Op) (λ _. Unit {0}) (λ _ _ _. Unit {0})
+pub plainest_spell : (Op : Type 0) → MastersSpell (plainest Op) (λ _. Unit {0}) (λ m x plan. m.changes x ≡ plan.changes)
 plainest_spell Op = record {
-  begins = λ k m plan g e. (tt, each_spelled Op (protocol.next_txn m) (protocol.finish k (protocol.begins m plan.parts plan.counts plan.scopes)).says);
-  hears = λ k m p y x plan g d. (tt, each_spelled Op x (protocol.at_once k m p (view y) ++ (protocol.finish k (protocol.heard m p (view y))).says));
+  begins = λ k m plan g e.
+      let x = protocol.next_txn m.core in
+      let d = chosen (same x x) plan.changes (m.changes x) (itself x) in
+      (d, each_spelled Op (with_changes x plan.changes m.changes) x plan.changes (protocol.finish k (protocol.begins m.core plan.parts plan.counts plan.scopes)).says d);
+  hears = λ k m p y x plan g d. (d, each_spelled Op m.changes x plan.changes (protocol.at_once k m.core p (view y) ++ (protocol.finish k (protocol.heard m.core p (view y))).says) d);
 }

@@ -1,13 +1,13 @@
 //! The laws are not empty: a configuration and masters that keep them.
 
+ghost use Rattle.std.specs.Prelude.{◌≡◌};
 ghost use Rattle.fc_headline.specs.PlainestLaws.{pairs_lawful, plainest_fit, plainest_spell};
-ghost use Rattle.fc_headline.specs.PlainestMasters.{Plan, plainest};
+ghost use Rattle.fc_headline.specs.PlainestMasters.{Driver, Plan, plainest};
 ghost use Rattle.fc_machine.specs.Plainest.{Pair, Set, pairs};
-ghost use Rattle.fc_protocol.specs.MasterMachine.{Master as Kept};
 
 use crate::Grounds;
 
-/// Two numbers, each at an instance of its own, and masters that keep what the protocol says and nothing else.
+/// Two numbers, each at an instance of its own, and masters that keep what the protocol says, and the changes of each transaction.
 pub struct Pairs;
 
 impl Grounds for Pairs {
@@ -21,9 +21,9 @@ impl Grounds for Pairs {
 
     ghost lawful = { pairs_lawful };
 
-    ghost Master = { Kept };
+    ghost Master = { Driver Set };
 
-    ghost Plan = { Plan };
+    ghost Plan = { Plan Set };
 
     ghost Change = { Unit {0} };
 
@@ -33,7 +33,7 @@ impl Grounds for Pairs {
 
     ghost fit = { plainest_fit Set };
 
-    ghost Drives = { λ _ _ _. Unit {0} };
+    ghost Drives = { λ m x plan. m.changes x ≡ plan.changes };
 
     ghost spell = { plainest_spell Set };
 }
