@@ -28,7 +28,7 @@ pub fn headline<G: Grounds>()
     ensures moments { (opening : G.Config) (subs : G.Subs) (n : Network) (steps : List (Step G.Plan G.Change)) (k : ℕ) → Headline G.basis G.masters opening (run G.basis G.masters (take k steps) (first_world opening subs n)) }
 {}
 
-/// Whatever arrives at an element, with any bytes, it becomes what the protocol says, says what the protocol says, and gives the facts that the protocol gives, in the circumstance that its state and the message make; and where the response
+/// Whatever arrives at an element, it becomes what the protocol says, says what the protocol says, and gives the facts that the protocol gives, in the circumstance that its state and the message make; and where the response
 /// leaves out no operation that came with a start or a change, it shows the first of their codes that is not 00.
 pub fn element_goes_by_the_protocol<G: Grounds>()
     ensures goes { (p k source : ℕ) (el : Element G.Config G.Op G.Subs) (m : Message G.Op) → Goes G.basis p el k source m (circumstance_of G.basis p el k source m) }
