@@ -1,3 +1,4 @@
+pub mod Bridge
 pub mod Changing
 pub mod ColumnLaws
 pub mod IndexKeys
