@@ -169,15 +169,11 @@ module _ (ty entry : Ty) (limit : ℕ) (keys : List KeyDecl) (array : out-Ty ty 
   put_there m s ss bytes v h =
       ap (put_at_place (put_in ss bytes) ss (step.Id s) bytes ty (value.Table (entries m))) (position_found (has s) (entries m) h.place h.within h.before h.here)
       ∙ ap (put_part (put_in ss bytes) h.place ty (value.Table (entries m))) (part_there (entries m) h.place h.entry h.got)
-      ∙ ap (λ (x : Value). put_in ss bytes entry x >>= λ w. checked ty (with_child h.place w (value.Table (entries m)))) h.is ∙ by (put_in ss bytes entry v) ∙ sym (same ss)
+      ∙ ap (λ (x : Value). put_in ss bytes entry x >>= λ w. checked ty (with_child h.place w (value.Table (entries m)))) h.is ∙ by (put_in ss bytes entry v)
     where
       by : (r : Result Value ℕ) → (r >>= λ w. checked ty (with_child h.place w (value.Table (entries m)))) ≡ (r >>= λ w. rekeyed (fields_of entry) keys (updated m s (Some w))) >>= table
       by (Err code) = refl
       by (Ok w) = checked_set (entries m) s v w (entries_sorted m) h ∙ keyed_rows m s w
-
-      same : (ts : List Step) → (put_entry ts bytes entry limit m (Some v) >>= λ w. rekeyed (fields_of entry) keys (updated m s (Some w))) >>= table ≡ (put_in ts bytes entry v >>= λ w. rekeyed (fields_of entry) keys (updated m s (Some w))) >>= table
-      same [] = refl
-      same (t ∷ ts) = refl
 
   put_at : (m : RowMap) (s : ℕ) (ss : List Step) (bytes : List ℕ) (o : Option Value) → get m s ≡ o
       → put_at_place (put_in ss bytes) ss (step.Id s) bytes ty (value.Table (entries m)) (position (has s) (entries m)) ≡ (put_entry ss bytes entry limit m o >>= λ w. rekeyed (fields_of entry) keys (updated m s (Some w))) >>= table
