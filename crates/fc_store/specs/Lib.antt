@@ -1,4 +1,5 @@
 pub mod Columns
+pub mod Components
 pub mod Histories
 pub mod Indexing
 pub mod Lent

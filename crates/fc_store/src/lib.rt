@@ -2,6 +2,7 @@
 #![tactic(auto)]
 
 mod columns;
+mod components;
 mod instance;
 mod laws;
 mod nodes;
@@ -9,8 +10,11 @@ mod rows;
 mod scopes;
 
 pub use columns::Rows;
+pub use components::EntryPath;
 pub use instance::{Instance, Inverse, Row, Slot};
-pub use laws::{an_index_tells, indexed_entries_differ, instances_apart};
+pub use laws::{
+    an_index_tells, array_changes_by_its_entries, indexed_entries_differ, instances_apart,
+};
 pub use nodes::{Node, whole};
 pub use rows::RowList;
 pub use scopes::Scopes;

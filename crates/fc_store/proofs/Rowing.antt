@@ -1,0 +1,42 @@
+-- What a call on an entry of a component answers.
+use Rattle.std.proofs.Common.{◌≡◌, ℕ, Bool, true, false, List, Option, Some, None, Result, Ok, Err, refl, sym, ap, subst, ◌∙◌, if◌then◌else◌}
+use Rattle.std.specs.FinMap.{entries, from_sorted, get}
+use Rattle.fc_base.specs.declared.faults.OpFault.{OpFault}
+use Rattle.fc_base.specs.declared.faults.OpFault.TheVariants as faults
+use Rattle.fc_path.specs.declared.oper.Step.{Step}
+use Rattle.fc_tree.specs.Putting.{already_there}
+use Rattle.fc_types.specs.declared.ty.Ty.{Ty}
+use Rattle.fc_value.specs.Outcomes.{Fails, Gives, ◌>>=◌}
+use Rattle.fc_value.specs.declared.value.Value.{Value}
+use Rattle.fc_value.specs.declared.value.Value.TheVariants as value
+use Rattle.fc_store.specs.Components.{Changes, cell_put, if_taken, put_entry}
+use Rattle.fc_store.specs.Histories.{Cell, Values, rows_of, slot_cell, takes}
+use Rattle.fc_store.specs.Rowed.{RowMap, Seen}
+use Rattle.fc_store.specs.declared.instance.Slot.{Slot}
+use Rattle.fc_store.specs.declared.instance.Slot.TheVariants as slot
+use Rattle.fc_store.proofs.Bridge.{Entries, entries_again}
+use Rattle.fc_store.proofs.Changing.{map_again}
+
+pub rows_again : (m : RowMap) → rows_of (value.Table (entries m)) ≡ m
+rows_again m = ap (λ (es : Entries). from_sorted es) (entries_again (entries m)) ∙ map_again m
+
+pub slot_put : (ss : List Step) (bytes : List ℕ) (entry : Ty) (limit s : ℕ) (t : Slot) (rows : Seen) (r : Result Value OpFault) → t ≡ slot.Entries rows
+    → Gives (λ v. v) r (put_entry ss bytes entry limit rows.0 (get rows.0 s)) → Gives (λ v. v) r (cell_put ss bytes entry limit s (slot_cell t))
+slot_put ss bytes entry limit s t rows r e h =
+    subst (λ (x : Slot). Gives (λ v. v) r (cell_put ss bytes entry limit s (slot_cell x))) (sym e)
+    (subst (λ (m : RowMap). Gives (λ v. v) r (put_entry ss bytes entry limit m (get m s))) (sym (rows_again rows.0)) h)
+
+-- ---- the answers
+pub row_fails : (fault : OpFault) (given : Result Value ℕ) (more : Value → Result Value ℕ) (put : Value → Values) (old new : Values) → Fails fault given → new ≡ old → Changes (Err fault) (given >>= more) put old new
+row_fails (faults.Refused code) given more put old new h n = (ap (λ (r : Result Value ℕ). r >>= more) h, n)
+row_fails faults.Memory given more put old new h n = (tt, n)
+
+pub row_done : (w : Value) (given : Result Value ℕ) (s : ℕ) (cell : Option (Option Cell)) (x : Unit {0}) (put : Value → Values) (old new : Values) → given ≡ Ok w → true ≡ takes s (Some w) cell → new ≡ put w
+    → Changes (Ok x) (given >>= if_taken s cell) put old new
+row_done w given s cell x put old new g t n =
+    (w, ap (λ (r : Result Value ℕ). r >>= if_taken s cell) g ∙ ap (λ (b : Bool). if b then Ok w else Err already_there) (sym t), n)
+
+pub row_there : (w : Value) (given : Result Value ℕ) (s : ℕ) (cell : Option (Option Cell)) (put : Value → Values) (old new : Values) → given ≡ Ok w → false ≡ takes s (Some w) cell → new ≡ old
+    → Changes (Err (faults.Refused already_there)) (given >>= if_taken s cell) put old new
+row_there w given s cell put old new g t n =
+    (ap (λ (r : Result Value ℕ). r >>= if_taken s cell) g ∙ ap (λ (b : Bool). if b then Ok w else Err already_there) (sym t), n)
