@@ -1,5 +1,7 @@
 // Selects and faults whose bytes and places stand in the specification of the format.
-use crate::{Body, Oper, OperKind, PathData, PathFault, PathHead, Select, Step, fits_results};
+use crate::{
+    Body, Ids, KeyRef, Oper, OperKind, PathData, PathFault, PathHead, Select, Step, fits_results,
+};
 use fc_base::{Code, Duplicate, List, Memory, Octets, WriteFault};
 use fc_wire::{Tlv, TlvWriter, Tlvs, WireFault};
 use std::alloc::{AllocError, Global};
@@ -545,58 +547,80 @@ const SIMPLE: [(OperKind, &str); 5] = [
     ),
 ];
 
-// The IDs of a head and its key, as they are lent.
+// The IDs that are lent, of which there are three at most.
+fn lent_ids(alloc: Global, ids: &mut Ids) -> Result<Vec<u32>, AllocError> {
+    let mut found = Vec::new(alloc);
+    for _ in 0..4 {
+        if let Some(id) = ids.next() {
+            found.push(id)?;
+        }
+    }
+    Ok(found)
+}
+
+// Whether the key is the one with the number 1 and this value.
+fn is_key(key: &Option<KeyRef>, value: Option<&[u8]>) -> bool {
+    match (key, value) {
+        (Some(key), Some(value)) => key.ident == 1 && key.value == value,
+        (None, None) => true,
+        _ => false,
+    }
+}
+
+// Whether the first of the TLVs is a whole value of one byte, AB.
+fn begins_with_ab(tlvs: &mut Tlvs) -> bool {
+    match tlvs.next() {
+        Some(Ok(tlv)) => tlv.kind == 0x0112 && tlv.body == [0xab].as_slice(),
+        _ => false,
+    }
+}
+
 #[test]
 fn heads_are_lent(rt: HostRuntime) -> Result<(), Fail> {
     let alloc = rt.alloc();
     // with an ID, with two, with none, and with a key; where each ends, and whether a body is left
-    let cases: [(&str, &[u32], bool, usize, bool); 4] = [
+    let name: &[u8] = b"eth0";
+    let cases: [(&str, &[u32], Option<&[u8]>, usize, bool); 4] = [
         (
             "01100014 7FFF0001 00000007 01120005 AB000000",
             &[7],
-            false,
+            None,
             44,
             true,
         ),
         (
             "01100010 00000002 00000007 00000008",
             &[7, 8],
-            false,
+            None,
             40,
             false,
         ),
-        ("01100008 00000000", &[], false, 32, false),
+        ("01100008 00000000", &[], None, 32, false),
         (
             "01100024 80000001 00000007 01110010 00000001 01120008 65746830 01120005 AB000000",
             &[7],
-            true,
+            Some(name),
             60,
             true,
         ),
     ];
-    for (digits, ids, keyed, end, is_left) in cases {
+    for (digits, ids, key, end, is_left) in cases {
         let bytes = bytes_of(alloc, digits)?;
         let tlv = first(&bytes).ok_or("a TLV")?;
         let mut head = PathHead::read(&tlv).ok().ok_or("a head")?;
-        for id in ids {
-            assert!(rt; head.ids.next() == Some(*id), "{digits}");
-        }
         assert!(rt;
-            head.ids.next().is_none() && head.ids.next().is_none(),
+            lent_ids(alloc, &mut head.ids)?.as_slice() == ids,
             "{digits}"
         );
-        assert!(rt; head.key.is_some() == keyed, "{digits}");
-        if let Some(key) = &head.key {
-            assert_eq!(rt; key.ident, 1);
-            assert!(rt; key.value == b"eth0".as_slice(), "{digits}");
-        }
+        assert!(rt; is_key(&head.key, key), "{digits}");
         assert_eq!(rt; head.end, end, "{digits}");
-        let left = match head.body.next() {
-            Some(Ok(body)) => body.kind == 0x0112 && body.body == [0xab].as_slice(),
-            _ => false,
-        };
-        assert!(rt; left == is_left, "{digits}");
+        assert!(rt; begins_with_ab(&mut head.body) == is_left, "{digits}");
     }
+    Ok(())
+}
+
+#[test]
+fn heads_are_refused(rt: HostRuntime) -> Result<(), Fail> {
     for (digits, fault) in [
         ("01100008 00000001", PathFault::CountPast { place: 24 }),
         (
@@ -604,7 +628,7 @@ fn heads_are_lent(rt: HostRuntime) -> Result<(), Fail> {
             PathFault::KeyFlag { place: 28 },
         ),
     ] {
-        let bytes = bytes_of(alloc, digits)?;
+        let bytes = bytes_of(rt.alloc(), digits)?;
         let tlv = first(&bytes).ok_or("a TLV")?;
         assert!(rt; PathHead::read(&tlv).err() == Some(fault), "{digits}");
     }
