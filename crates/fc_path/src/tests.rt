@@ -1,6 +1,7 @@
 // Selects and faults whose bytes and places stand in the specification of the format.
 use crate::{
-    Body, Ids, KeyRef, Oper, OperKind, PathData, PathFault, PathHead, Select, Step, fits_results,
+    Body, Ids, Key, KeyRef, Oper, OperKind, PathData, PathFault, PathHead, Select, Step,
+    fits_results,
 };
 use fc_base::{Code, Duplicate, List, Memory, Octets, WriteFault};
 use fc_wire::{Tlv, TlvWriter, Tlvs, WireFault};
@@ -30,7 +31,7 @@ fn bytes_of(alloc: Global, digits: &str) -> Result<Vec<u8>, AllocError> {
 
 // The select of the first TLV, which stands at 24 in a message of a type.
 fn read(alloc: Global, message: u8, bytes: &[u8]) -> Result<Select, PathFault> {
-    if bytes.len() % 4 != 0 || bytes.len() > 1000 {
+    if bytes.len() % 4 != 0 || bytes.len() > 65_536 {
         return Err(PathFault::Memory);
     }
     let mut tlvs = Tlvs::over(bytes, 24);
@@ -475,6 +476,51 @@ fn wide(alloc: Global, steps: u32, size: u32) -> Result<Select, Memory> {
         instance: 1,
         opers,
     })
+}
+
+// A GET by a key of so many bytes.
+fn by_key(alloc: Global, size: u32) -> Result<Select, Memory> {
+    let mut value = Vec::new(alloc);
+    for _ in 0..size {
+        value.push(1)?;
+    }
+    let mut paths = List::new(alloc);
+    paths.push(PathData {
+        ids: List::new(alloc),
+        key: Some(Key {
+            ident: 1,
+            value: Octets::from_vec(value),
+        }),
+        body: Body::Nothing,
+    })?;
+    let mut opers = List::new(alloc);
+    opers.push(Oper::Paths(OperKind::Get, paths))?;
+    Ok(Select {
+        class: 1,
+        instance: 1,
+        opers,
+    })
+}
+
+// Whether a select is read again, in a message of a type, of what is written of it.
+fn is_read_again(alloc: Global, message: u8, select: &Select) -> bool {
+    let mut writer = TlvWriter::new(alloc);
+    if select.write(&mut writer).is_err() {
+        return false;
+    }
+    match read(alloc, message, writer.finish().as_slice()) {
+        Ok(again) => again == *select,
+        Err(_) => false,
+    }
+}
+
+#[test]
+fn the_greatest_selects_are_read_again(rt: HostRuntime) -> Result<(), Fail> {
+    let alloc = rt.alloc();
+    assert!(rt; is_read_again(alloc, 3, &wide(alloc, 16_300, 0)?));
+    assert!(rt; is_read_again(alloc, 3, &wide(alloc, 1, 65_400)?));
+    assert!(rt; is_read_again(alloc, 4, &by_key(alloc, 65_400)?));
+    Ok(())
 }
 
 #[test]

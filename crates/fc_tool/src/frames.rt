@@ -44,8 +44,8 @@ pub fn push_frames(alloc: Global, bytes: &[u8], text: &mut Vec<u8>) -> Result<Cu
     })
 }
 
-// Appends the text of the message that a frame spells, or tells why it spells none. Its lines are gathered apart, since
-// some of them may stand there before a rule is seen to be broken.
+// Appends the text of the message that a frame spells, or tells why it spells none. Its lines are gathered in a buffer of
+// their own, which is kept and empty, so that they are made in place.
 fn push_frame(
     alloc: Global,
     frame: &[u8],
