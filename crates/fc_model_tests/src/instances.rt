@@ -9,6 +9,7 @@ use std::alloc::Global;
 use std::test::Fail;
 
 const MANY: u32 = 65_536;
+
 const ROUNDS: u32 = 100_000;
 
 fn both(alloc: Global, first: u32, second: u32) -> Result<Value, Memory> {
@@ -104,7 +105,11 @@ fn one_entry_of_many_is_refused(rt: HostRuntime) -> Result<(), Fail> {
         fields: pair(alloc)?,
     };
     let answers = [
-        (4, &[0u8, 0, 0, 9, 0, 0, 0, 0][..], Code::INVALID_ARRAY_CREATION),
+        (
+            4,
+            &[0u8, 0, 0, 9, 0, 0, 0, 0][..],
+            Code::INVALID_ARRAY_CREATION,
+        ),
         (4, &[0u8, 0, 0, 9][..], Code::INVALID_TLV),
         (2, &[0u8, 0, 0, 3, 0, 0, 0, 0][..], Code::EXISTS),
     ];
@@ -126,7 +131,9 @@ fn one_entry_of_many_is_refused(rt: HostRuntime) -> Result<(), Fail> {
         rest: &below,
     };
     let refused = instance.put_row(alloc, 0, &path, &[0, 0, 0, 9]);
-    assert!(rt; matches!(refused, Err(OpFault::Refused(told)) if told == Code::COMPONENT_DOES_NOT_EXIST));
+    assert!(rt;
+        matches!(refused, Err(OpFault::Refused(told)) if told == Code::COMPONENT_DOES_NOT_EXIST)
+    );
     let elsewhere = instance.put_row(alloc, 1, &path, &[0, 0, 0, 9]);
     assert!(rt; matches!(elsewhere, Err(OpFault::Refused(told)) if told == Code::INVALID_PATH));
     instance.put_whole(1, Slot::Absent)?;

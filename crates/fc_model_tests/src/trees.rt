@@ -48,11 +48,20 @@ fn an_entry_is_found_by_its_key(rt: HostRuntime) -> Result<(), Fail> {
     let ty = ports(alloc)?;
     let one = put_value(alloc, &ty, empty(alloc), &[Step::Id(1)], &ENTRY)?;
     let steps = [by_name(alloc, b"eth0")?];
-    assert_eq!(rt; written(alloc, &ty, &one, &steps)?.as_slice(), ENTRY.as_slice());
+    assert_eq!(rt;
+        written(alloc, &ty, &one, &steps)?.as_slice(),
+        ENTRY.as_slice()
+    );
     let other = [by_name(alloc, b"eth1")?];
-    assert_eq!(rt; code(&written(alloc, &ty, &one, &other)), Some(Code::NOT_FOUND));
+    assert_eq!(rt;
+        code(&written(alloc, &ty, &one, &other)),
+        Some(Code::NOT_FOUND)
+    );
     let no_key = [Step::Key(2, Octets::from_slice(alloc, b"eth0")?)];
-    assert_eq!(rt; code(&written(alloc, &ty, &one, &no_key)), Some(Code::INVALID_PATH));
+    assert_eq!(rt;
+        code(&written(alloc, &ty, &one, &no_key)),
+        Some(Code::INVALID_PATH)
+    );
     let again = put_value(alloc, &ty, one, &[Step::Id(2)], &ENTRY);
     assert_eq!(rt; code(&again), Some(Code::EXISTS));
     Ok(())
@@ -84,7 +93,10 @@ fn what_is_not_named_stays(rt: HostRuntime) -> Result<(), Fail> {
     let mtu = merge_value(alloc, &ty, one, &[Step::Id(1)], &changes)?;
     let mut wanted = ENTRY;
     wanted[11] = 200;
-    assert_eq!(rt; written(alloc, &ty, &mtu, &[Step::Id(1)])?.as_slice(), wanted.as_slice());
+    assert_eq!(rt;
+        written(alloc, &ty, &mtu, &[Step::Id(1)])?.as_slice(),
+        wanted.as_slice()
+    );
     let taken = merge_value(alloc, &ty, mtu, &[], &[ilv(alloc, 2, &ENTRY)?]);
     assert_eq!(rt; code(&taken), Some(Code::EXISTS));
     let changes = [ilv(alloc, 9, &ENTRY)?, ilv(alloc, 4, &named(0x31))?];
@@ -100,7 +112,10 @@ fn a_removed_entry_is_not_found(rt: HostRuntime) -> Result<(), Fail> {
     let ty = ports(alloc)?;
     let one = put_value(alloc, &ty, empty(alloc), &[Step::Id(1)], &ENTRY)?;
     let none = remove_value(alloc, &ty, one, &[by_name(alloc, b"eth0")?])?;
-    assert_eq!(rt; code(&written(alloc, &ty, &none, &[Step::Id(1)])), Some(Code::NOT_FOUND));
+    assert_eq!(rt;
+        code(&written(alloc, &ty, &none, &[Step::Id(1)])),
+        Some(Code::NOT_FOUND)
+    );
     let one = put_value(alloc, &ty, none, &[Step::Id(7)], &ENTRY)?;
     let field = remove_value(alloc, &ty, one, &[Step::Id(7), Step::Id(1)]);
     assert_eq!(rt; code(&field), Some(Code::INVALID_PARAMETERS));
