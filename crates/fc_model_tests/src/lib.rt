@@ -1,13 +1,7 @@
-//! Tests of what an element's configuration stands on: undo stacks, key indexes, values that change and instances that go back.
+//! Tests of what an element's configuration stands on: the undo stack and the key index.
 #![tactic(auto)]
 
 #[cfg(test)]
-mod instances;
-#[cfg(test)]
 mod keys;
-#[cfg(test)]
-mod trees;
-#[cfg(test)]
-mod types;
 #[cfg(test)]
 mod undo;
