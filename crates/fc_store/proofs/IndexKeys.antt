@@ -75,7 +75,7 @@ module _ (key : Value → List ℕ) where
       let other : eq_by_cmp nat_cmp x.0 s ≡ false = turned_apart s x.0 _ refl (less_not_equal (nat_cmp s x.0) parts.0) in
       (ap (λ c. cond c (Some v) (find nat_cmp x.0 whole)) other ∙ a.0, found_behind s v es whole parts.1 a.1)
 
-  each_found : (es : Entries) → T (is_sorted nat_cmp es) → AllByRecursion (λ (e : ℕ × Value). find nat_cmp e.0 es ≡ Some e.1) es
+  pub each_found : (es : Entries) → T (is_sorted nat_cmp es) → AllByRecursion (λ (e : ℕ × Value). find nat_cmp e.0 es ≡ Some e.1) es
   each_found [] so = tt
   each_found (x ∷ es) so =
       let parts : T (below_all nat_cmp x.0 es) × T (is_sorted nat_cmp es) = halves (below_all nat_cmp x.0 es) (is_sorted nat_cmp es) so in

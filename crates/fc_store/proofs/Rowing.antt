@@ -25,18 +25,3 @@ pub slot_put : (ss : List Step) (bytes : List ℕ) (entry : Ty) (limit s : ℕ) 
 slot_put ss bytes entry limit s t rows r e h =
     subst (λ (x : Slot). Gives (λ v. v) r (cell_put ss bytes entry limit s (slot_cell x))) (sym e)
     (subst (λ (m : RowMap). Gives (λ v. v) r (put_entry ss bytes entry limit m (get m s))) (sym (rows_again rows.0)) h)
-
--- ---- the answers
-pub row_fails : (fault : OpFault) (given : Result Value ℕ) (more : Value → Result Value ℕ) (put : Value → Values) (old new : Values) → Fails fault given → new ≡ old → Changes (Err fault) (given >>= more) put old new
-row_fails (faults.Refused code) given more put old new h n = (ap (λ (r : Result Value ℕ). r >>= more) h, n)
-row_fails faults.Memory given more put old new h n = (tt, n)
-
-pub row_done : (w : Value) (given : Result Value ℕ) (s : ℕ) (cell : Option (Option Cell)) (x : Unit {0}) (put : Value → Values) (old new : Values) → given ≡ Ok w → true ≡ takes s (Some w) cell → new ≡ put w
-    → Changes (Ok x) (given >>= if_taken s cell) put old new
-row_done w given s cell x put old new g t n =
-    (w, ap (λ (r : Result Value ℕ). r >>= if_taken s cell) g ∙ ap (λ (b : Bool). if b then Ok w else Err already_there) (sym t), n)
-
-pub row_there : (w : Value) (given : Result Value ℕ) (s : ℕ) (cell : Option (Option Cell)) (put : Value → Values) (old new : Values) → given ≡ Ok w → false ≡ takes s (Some w) cell → new ≡ old
-    → Changes (Err (faults.Refused already_there)) (given >>= if_taken s cell) put old new
-row_there w given s cell put old new g t n =
-    (ap (λ (r : Result Value ℕ). r >>= if_taken s cell) g ∙ ap (λ (b : Bool). if b then Ok w else Err already_there) (sym t), n)

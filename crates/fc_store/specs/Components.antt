@@ -74,6 +74,20 @@ if_taken s cell w = if takes s (Some w) cell then Ok w else Err already_there
 abbrev pub row_put : List Step → List ℕ → Ty → ℕ → ℕ → Option (Option Cell) → Result Value ℕ
 row_put ss bytes entry limit s cell = entry_at_cell ss bytes entry limit s cell >>= if_taken s cell
 
+-- what stands at a subscript of a component
+abbrev pub shaped_entry : ℕ → Value → Option Shape → Option Value
+shaped_entry s v None = None
+shaped_entry s v (Some shape) = get (rows_of v) s
+
+abbrev pub cell_entry : ℕ → Option Cell → Option Value
+cell_entry s None = None
+cell_entry s (Some cell) = shaped_entry s cell.0 cell.1
+
+-- the entry at a subscript, and none where the component is no array
+abbrev pub entry_at_subscript : ℕ → Option (Option Cell) → Option Value
+entry_at_subscript s None = None
+entry_at_subscript s (Some cell) = cell_entry s cell
+
 -- what a call answers, and what stands then: the change that is meant, or after a refusal with its code, and for want of memory, what
 -- stood before
 abbrev pub Changes : Result (Unit {0}) OpFault → Result Value ℕ → (Value → Values) → Values → Values → Type 0

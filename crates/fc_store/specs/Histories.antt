@@ -15,12 +15,6 @@ use Rattle.fc_store.specs.declared.instance.Slot.TheVariants as slot
 use Rattle.fc_store.specs.declared.instance.Inverse.{Inverse}
 use Rattle.fc_store.specs.declared.instance.Inverse.TheVariants as inverse
 
--- the value of a component, or none
-abbrev pub slot_value : Slot → Option Value
-slot_value slot.Absent = None
-slot_value (slot.Whole v) = Some v
-slot_value (slot.Entries rows) = Some (value.Table (entries rows.0))
-
 -- what is seen of a component that has a value: that value, and of an array also what tells its entries apart
 abbrev pub Cell : Type 0
 Cell = Value × Option Shape

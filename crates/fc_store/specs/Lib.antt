@@ -2,6 +2,5 @@ pub mod Columns
 pub mod Components
 pub mod Histories
 pub mod Indexing
-pub mod Lent
 pub mod Rowed
 pub mod Scopes

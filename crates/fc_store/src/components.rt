@@ -1,9 +1,9 @@
 // Changes of a component that is an array, entry by entry.
-ghost use Rattle.std.specs.Prelude.{◌≡◌, slice_get, Some, None};
+ghost use Rattle.std.specs.Prelude.{◌≡◌, option_map, slice_get, Some, None};
 ghost use Rattle.std.specs.FinMap as map;
 ghost use Rattle.fc_value.specs.Outcomes.{Gives};
 ghost use Rattle.fc_store.specs.Components as spec;
-ghost use Rattle.fc_store.specs.Components.{Changes, cell_put, entry_at_cell, put_entry, row_put};
+ghost use Rattle.fc_store.specs.Components.{Changes, cell_entry, cell_put, entry_at_cell, entry_at_subscript, put_entry, row_put};
 ghost use Rattle.fc_store.specs.Histories.{slot_cell, values_of, with_entry};
 
 use crate::{Instance, Rows, Slot};
@@ -84,6 +84,27 @@ pub fn entry_at(
     match slots.get(component) {
         Some(slot) => entry_of_slot(alloc, slot, path, full),
         None => Err(OpFault::Refused(Code::INVALID_PATH)),
+    }
+}
+
+// The entry at a subscript of what stands for a component.
+fn entry_of(slot: &Slot, subscript: u32) -> Option<&Value>
+    ensures { option_map (λ x. x.now) result ≡ cell_entry subscript (slot_cell slot.now) }
+{
+    match slot {
+        Slot::Absent => None,
+        Slot::Whole(_) => None,
+        Slot::Entries(rows) => rows.get(subscript),
+    }
+}
+
+// The entry at a subscript of a component.
+pub fn entry_in(slots: &[Slot], component: usize, subscript: u32) -> Option<&Value>
+    ensures { option_map (λ x. x.now) result ≡ entry_at_subscript subscript (slice_get (values_of slots.now) component) }
+{
+    match slots.get(component) {
+        Some(slot) => entry_of(slot, subscript),
+        None => None,
     }
 }
 

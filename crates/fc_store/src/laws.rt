@@ -1,5 +1,5 @@
 // Laws of the store.
-ghost use Rattle.std.specs.Prelude.{◌≡◌, ◌∷◌, [], ℕ, List, Option, option_map, bytes_eq, true, not, is_some, Some};
+ghost use Rattle.std.specs.Prelude.{◌≡◌, ◌==◌, ◌∷◌, [], position, option_and_then, ℕ, List, Option, option_map, bytes_eq, true, not, is_some, Some};
 ghost use Rattle.fc_types.specs.Ids.{is_distinct};
 ghost use Rattle.std.specs.FinMap as map;
 ghost use Rattle.fc_keys.specs.Keys.{KeyMap};
@@ -16,6 +16,7 @@ ghost use Rattle.fc_types.specs.declared.ty.Ty.{Ty as Typed};
 ghost use Rattle.fc_types.specs.declared.ty.Ty.TheOpen.{Ty-F};
 ghost use Rattle.fc_types.specs.declared.ty.Ty.TheViews.{out-Ty};
 ghost use Rattle.fc_value.specs.declared.value.Value.TheVariants as value;
+ghost use Rattle.fc_store.specs.Columns.{Leads};
 ghost use Rattle.fc_store.specs.Components.{as_value, put_rows, remove_row};
 ghost use Rattle.fc_store.specs.Histories.{Held};
 ghost use Rattle.fc_store.specs.Scopes.{at};
@@ -30,6 +31,11 @@ pub fn instances_apart()
 pub fn array_changes_by_its_entries()
     ensures put { (ty entry : Typed) (limit : ℕ) (keys : List Keyed) → out-Ty ty ≡ Ty-F.Array entry limit keys → (m : RowMap) (s : ℕ) (ss : List Step) (bytes : List ℕ) → put_in (step.Id s ∷ ss) bytes ty (value.Table (map.entries m)) ≡ as_value (put_rows ss bytes entry limit keys m s) }
     ensures removed { (ty entry : Typed) (limit : ℕ) (keys : List Keyed) → out-Ty ty ≡ Ty-F.Array entry limit keys → (m : RowMap) (s : ℕ) → remove_in (step.Id s ∷ []) ty (value.Table (map.entries m)) ≡ as_value (remove_row m s (map.get m s)) }
+{}
+
+/// The entry to which a key leads by an index is the one that a search through all entries finds, and its place is that of its subscript.
+pub fn a_key_leads_where_a_search_does()
+    ensures { (key : Valued → List ℕ) (k : List ℕ) (m : RowMap) (o : Option ℕ) → Leads key m k o → position (λ (e : ℕ × Valued). bytes_eq (key e.1) k) (map.entries m) ≡ option_and_then (λ s. position (λ (e : ℕ × Valued). e.0 == s) (map.entries m)) o }
 {}
 
 /// Entries that have an index by a key differ in that key.

@@ -5,7 +5,6 @@ mod columns;
 mod components;
 mod instance;
 mod laws;
-mod nodes;
 mod rows;
 mod scopes;
 
@@ -13,8 +12,8 @@ pub use columns::Rows;
 pub use components::EntryPath;
 pub use instance::{Instance, Inverse, Row, Slot};
 pub use laws::{
-    an_index_tells, array_changes_by_its_entries, indexed_entries_differ, instances_apart,
+    a_key_leads_where_a_search_does, an_index_tells, array_changes_by_its_entries,
+    indexed_entries_differ, instances_apart,
 };
-pub use nodes::{Node, whole};
 pub use rows::RowList;
 pub use scopes::Scopes;
