@@ -1,5 +1,5 @@
 -- The component to which a spot leads: RFC 5810, section 7.1, on paths; the codes, their order and the rights are this profile's own.
-use Rattle.std.specs.Prelude.{ℕ, ◌==◌, nat_le, Bool, true, false, not, ◌&&◌, ◌||◌, List, [], ◌∷◌, find, position, Option, Some, None, option_map, Result, Ok, Err, if◌then◌else◌}
+use Rattle.std.specs.Prelude.{ℕ, ◌==◌, Bool, not, ◌&&◌, ◌||◌, List, [], ◌∷◌, find, position, Option, Some, None, Result, Ok, Err, if◌then◌else◌}
 use Rattle.fc_path.specs.declared.oper.Step.{Step}
 use Rattle.fc_path.specs.declared.oper.Step.TheVariants as step
 use Rattle.fc_tree.specs.Finding.{invalid_path, no_component, or_code}
