@@ -1,7 +1,13 @@
-//! Tests of what an element's configuration stands on: the undo stack and the key index.
+//! Tests of what an element's configuration stands on: undo stacks, key indexes, values that change and instances that go back.
 #![tactic(auto)]
 
 #[cfg(test)]
+mod instances;
+#[cfg(test)]
 mod keys;
+#[cfg(test)]
+mod trees;
+#[cfg(test)]
+mod types;
 #[cfg(test)]
 mod undo;

@@ -1,10 +1,8 @@
 -- An array that is a component changes as its entries do.
-use Rattle.std.proofs.Common.{◌≡◌, ℕ, zero, suc, ◌<◌, ◌≤◌, ◌==◌, Bool, true, false, cond, nat_le, bytes_eq, T, List, [], ◌∷◌, length, slice_get, slice_set, slice_index_or, position, refl, sym, ap, subst, ◌∙◌, arith, Option, Some, None, option_map, Result, Ok, Err, if◌then◌else◌}
+use Rattle.std.proofs.Common.{◌≡◌, ℕ, zero, suc, ◌<◌, ◌==◌, Bool, true, false, cond, nat_le, T, List, [], ◌∷◌, length, slice_get, slice_set, slice_index_or, position, refl, sym, ap, ◌∙◌, arith, Option, Some, None, option_map, Result, Ok, Err, if◌then◌else◌}
 use Rattle.std.specs.Bool.{IsTrue}
 use Rattle.std.specs.List.{AllWithin, HoldsAt, remove}
-use Rattle.std.specs.Ordering.{nat_cmp, eq_by_cmp, is_eq}
-use Rattle.std.specs.declared.cmp.Ordering.{Ordering}
-use Rattle.std.specs.declared.cmp.Ordering.TheVariants.{Equal}
+use Rattle.std.specs.Ordering.{nat_cmp, eq_by_cmp}
 use Rattle.std.specs.Cmp.{nat_cmp_total, unsigned_tied, tied_itself}
 use Rattle.std.specs.FinMap as map
 use Rattle.std.specs.FinMap.{nat_cmp-IsAntisymmetric, find, put, is_sorted, entries, entries_sorted, entries-insert, entries-from_sorted, from_sorted, get, get-entries, len, len-entries}
@@ -19,7 +17,6 @@ use Rattle.fc_tree.specs.Places.{Stands}
 use Rattle.fc_tree.proofs.Places as places
 use Rattle.fc_tree.proofs.Positions.{position_found, position_none}
 use Rattle.fc_types.specs.Types.{fields_of}
-use Rattle.fc_types.specs.declared.ty.Field.{Field}
 use Rattle.fc_types.specs.declared.ty.KeyDecl.{KeyDecl}
 use Rattle.fc_types.specs.declared.ty.Ty.{Ty}
 use Rattle.fc_types.specs.declared.ty.Ty.TheOpen.{Ty-F}
@@ -28,7 +25,7 @@ use Rattle.fc_value.specs.Keys.{keys_differ}
 use Rattle.fc_value.specs.Nodes.{child, child_layer, with_child, with_child_layer, with_entry}
 use Rattle.fc_value.specs.Outcomes.{◌>>=◌}
 use Rattle.fc_value.specs.Reading.{full_in}
-use Rattle.fc_value.specs.declared.value.Value.{Value, out-Value, roll-Value}
+use Rattle.fc_value.specs.declared.value.Value.{Value, out-Value}
 use Rattle.fc_value.specs.declared.value.Value.TheOpen.{Value-F}
 use Rattle.fc_value.specs.declared.value.Value.TheVariants as value
 use Rattle.fc_value.specs.declared.value.Value.TheViews.{out-roll-Value, rolls-Table}

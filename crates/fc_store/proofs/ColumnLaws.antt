@@ -1,10 +1,9 @@
 -- The indexes of the entries of an array, and what a change of an entry makes of them.
-use Rattle.std.proofs.Common.{take, ◌≡◌, ◌≤◌, ◌<◌, ◌+◌, ◌-◌, ◌==◌, ◌&&◌, ◌++◌, nat_lt, not, ℕ, zero, suc, Bool, true, false, cond, if◌then◌else◌, List, [], ◌∷◌, length, slice_get, slice_set, slice_index_or, refl, sym, ap, subst, ◌∙◌, arith, Option, Some, None, option_map, is_some, map, bytes_eq, eqb-true}
+use Rattle.std.proofs.Common.{take, ◌≡◌, ◌≤◌, ◌<◌, ◌+◌, ◌-◌, ◌==◌, ◌&&◌, ◌++◌, nat_lt, not, ℕ, zero, suc, Bool, true, false, cond, if◌then◌else◌, List, [], ◌∷◌, length, slice_get, slice_set, slice_index_or, refl, sym, ap, subst, ◌∙◌, arith, Option, Some, None, option_map, is_some, bytes_eq}
 use Rattle.std.proofs.lemmas.Bool.Decides.{nat_tests}
 use Rattle.std.specs.Ordering.{nat_cmp, eq_by_cmp}
 use Rattle.std.specs.Cmp.{nat_cmp_total, unsigned_tied}
 use Rattle.std.specs.Cmp.Lexicographic.{nat_list_cmp_total}
-use Rattle.std.specs.List.{list_all}
 use Rattle.std.specs.FinMap.{contains_key, empty, entries, get, get-empty, get-remove, insert, len, len-empty, len-insert, len-remove, remove}
 use Rattle.fc_keys.specs.Keys.{KeyMap, key_cmp}
 use Rattle.fc_types.specs.Ids.{is_distinct}
@@ -14,8 +13,8 @@ use Rattle.fc_value.specs.Keys.{differ_in, key_value, keys_differ}
 use Rattle.fc_value.specs.declared.value.Value.{Value}
 use Rattle.fc_store.specs.Columns.{AreEmpty, AreIndexes, AreWider, Column, HasRoomAt, HaveRoom, KeptRows, Leads, LeadsBy, are_free, at_column, each_column, leads_here, less_key, more_key}
 use Rattle.fc_store.specs.Indexing.{keys_of}
-use Rattle.fc_keys.specs.Indexing.{Indexes, IsFree, reindexed, less_key as without, with_key}
-use Rattle.fc_store.specs.Rowed.{CanSwap, KeysFit, Prepared, RowMap, Seen, Shape, updated, values_of_keys}
+use Rattle.fc_keys.specs.Indexing.{Indexes, IsFree, less_key as without}
+use Rattle.fc_store.specs.Rowed.{CanSwap, KeysFit, RowMap, Seen, Shape, updated, values_of_keys}
 use Rattle.fc_store.proofs.Changing.{fits_alike, got-updated, updated_back, updated_fits}
 use Rattle.fc_store.proofs.IndexKeys.{index_tells, indexed_differ, leads}
 use Rattle.fc_keys.proofs.Indexed.{key_is, number_own, reindexed_kept, some_is}

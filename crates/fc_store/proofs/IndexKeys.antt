@@ -1,10 +1,9 @@
 -- Entries differ in a key exactly where their index leaves the key of the new one free.
-use Rattle.std.proofs.Common.{◌≡◌, ℕ, Bool, true, false, not, cond, ◌&&◌, ◌||◌, T, List, [], ◌∷◌, map, refl, sym, ap, subst, ◌∙◌, Option, Some, None, option_map, is_some, bytes_eq}
+use Rattle.std.proofs.Common.{◌≡◌, ℕ, Bool, true, false, not, cond, ◌&&◌, ◌||◌, T, List, [], ◌∷◌, refl, sym, ap, ◌∙◌, Option, Some, None, option_map, is_some, bytes_eq}
 use Rattle.std.specs.List.{AllByRecursion, list_any}
 use Rattle.std.specs.Ordering.{nat_cmp, eq_by_cmp, is_eq, is_lt}
 use Rattle.std.specs.declared.cmp.Ordering.{Ordering}
 use Rattle.std.specs.declared.cmp.Ordering.TheVariants.{Less, Equal, Greater}
-use Rattle.std.specs.Cmp.{nat_cmp_total, unsigned_tied, tied_itself, tied_back}
 use Rattle.std.specs.Cmp.Lexicographic.{nat_list_cmp_total}
 use Rattle.std.specs.FinMap.{entries, entries_sorted, find, get, get-entries, get-remove, is_sorted}
 use Rattle.std.specs.FinMap.Entries.{below_all}
@@ -12,7 +11,7 @@ use Rattle.std.proofs.lemmas.Map.Text.{is_eq-slice_cmp}
 use Rattle.fc_keys.specs.Keys.{KeyMap, key_cmp}
 use Rattle.fc_types.specs.Ids.{is_distinct}
 use Rattle.fc_store.specs.Indexing.{keys_of}
-use Rattle.fc_keys.specs.Indexing.{Indexes, IsFree, reindexed, less_key as without}
+use Rattle.fc_keys.specs.Indexing.{Indexes, less_key as without}
 use Rattle.fc_store.specs.Rowed.{RowMap, updated}
 use Rattle.fc_store.proofs.Changing.{got-updated}
 use Rattle.fc_keys.proofs.Indexed.{key_is, key_own, number_is, number_own, reindexed_kept, some_is}

@@ -1,6 +1,6 @@
 -- A key leads to the entry that a search through all entries finds.
-use Rattle.std.proofs.Common.{◌≡◌, ℕ, zero, suc, ◌<◌, ◌==◌, Bool, true, false, bytes_eq, List, [], ◌∷◌, length, slice_get, slice_index_or, position, refl, sym, ap, subst, ◌∙◌, arith, Option, Some, None, option_and_then}
-use Rattle.std.specs.List.{AllByRecursion, AllWithin, HoldsAt}
+use Rattle.std.proofs.Common.{◌≡◌, ℕ, zero, suc, ◌<◌, ◌==◌, Bool, true, false, bytes_eq, List, [], ◌∷◌, length, slice_get, slice_index_or, position, refl, sym, ap, ◌∙◌, arith, Option, Some, None, option_and_then}
+use Rattle.std.specs.List.{AllByRecursion}
 use Rattle.std.specs.Ordering.{nat_cmp}
 use Rattle.std.specs.FinMap.{entries, entries_sorted, find, get, get-entries}
 use Rattle.std.proofs.lemmas.Map.Text.{is_eq-slice_cmp}

@@ -1,5 +1,5 @@
 -- The lemmas on entries whose keys rise, for subscripts, as the calls on the entries of an array want them.
-use Rattle.std.proofs.Common.{◌≡◌, ℕ, ◌<◌, ◌≤◌, ◌+◌, ◌-◌, Bool, true, false, cond, List, [], ◌∷◌, zero, suc, length, refl, sym, ap, subst, ◌∙◌, arith, Option, Some, None, option_map, slice_get, slice_set, slice_index_or, is_some}
+use Rattle.std.proofs.Common.{◌≡◌, ℕ, ◌<◌, ◌≤◌, ◌+◌, Bool, true, false, cond, List, [], ◌∷◌, zero, suc, length, sym, ap, subst, ◌∙◌, arith, Option, Some, None, option_map, slice_get, slice_set, slice_index_or, is_some}
 use Rattle.std.specs.Bool.{IsTrue}
 use Rattle.std.specs.List.{insert, remove}
 use Rattle.std.specs.Ordering.{nat_cmp}

@@ -1,16 +1,14 @@
 -- What a call on an entry of a component answers.
-use Rattle.std.proofs.Common.{◌≡◌, ℕ, Bool, true, false, List, Option, Some, None, Result, Ok, Err, refl, sym, ap, subst, ◌∙◌, if◌then◌else◌}
+use Rattle.std.proofs.Common.{◌≡◌, ℕ, List, Result, sym, ap, subst, ◌∙◌}
 use Rattle.std.specs.FinMap.{entries, from_sorted, get}
 use Rattle.fc_base.specs.declared.faults.OpFault.{OpFault}
-use Rattle.fc_base.specs.declared.faults.OpFault.TheVariants as faults
 use Rattle.fc_path.specs.declared.oper.Step.{Step}
-use Rattle.fc_tree.specs.Putting.{already_there}
 use Rattle.fc_types.specs.declared.ty.Ty.{Ty}
-use Rattle.fc_value.specs.Outcomes.{Fails, Gives, ◌>>=◌}
+use Rattle.fc_value.specs.Outcomes.{Gives}
 use Rattle.fc_value.specs.declared.value.Value.{Value}
 use Rattle.fc_value.specs.declared.value.Value.TheVariants as value
-use Rattle.fc_store.specs.Components.{Changes, cell_put, if_taken, put_entry}
-use Rattle.fc_store.specs.Histories.{Cell, Values, rows_of, slot_cell, takes}
+use Rattle.fc_store.specs.Components.{cell_put, put_entry}
+use Rattle.fc_store.specs.Histories.{rows_of, slot_cell}
 use Rattle.fc_store.specs.Rowed.{RowMap, Seen}
 use Rattle.fc_store.specs.declared.instance.Slot.{Slot}
 use Rattle.fc_store.specs.declared.instance.Slot.TheVariants as slot

@@ -1,5 +1,5 @@
 -- What an instance holds, and how changes of it are undone. This profile's own.
-use Rattle.std.specs.Prelude.{◌≡◌, ◌<◌, ◌≤◌, ◌+◌, ℕ, Bool, true, false, option_map, List, [], ◌∷◌, length, map, drop, slice_get, slice_set, Option, Some, None, refl}
+use Rattle.std.specs.Prelude.{◌≡◌, ◌<◌, ◌≤◌, ◌+◌, ℕ, Bool, false, option_map, List, [], ◌∷◌, length, map, drop, slice_get, slice_set, Option, Some, None, refl}
 use Rattle.std.specs.Coded.{Coded, code_by, coded×, coded_list, coded_option}
 use Rattle.fc_value.specs.contracts.value.Value as contracts
 use Rattle.std.specs.List.{AllByRecursion}
@@ -9,7 +9,6 @@ use Rattle.fc_value.specs.declared.value.Value.TheVariants as value
 use Rattle.fc_tree.specs.Finding.{entries_of}
 use Rattle.fc_value.specs.Keys.{keys_differ}
 use Rattle.fc_store.specs.Rowed.{CanSwap, KeysFit, RowMap, Shape, shape_code, updated}
-use Rattle.fc_store.specs.declared.instance.Row.{Row}
 use Rattle.fc_store.specs.declared.instance.Slot.{Slot}
 use Rattle.fc_store.specs.declared.instance.Slot.TheVariants as slot
 use Rattle.fc_store.specs.declared.instance.Inverse.{Inverse}

@@ -4,3 +4,4 @@ pub mod Histories
 pub mod Indexing
 pub mod Rowed
 pub mod Scopes
+pub mod Spots

@@ -7,6 +7,7 @@ mod instance;
 mod laws;
 mod rows;
 mod scopes;
+mod spots;
 
 pub use columns::Rows;
 pub use components::EntryPath;
@@ -17,3 +18,4 @@ pub use laws::{
 };
 pub use rows::RowList;
 pub use scopes::Scopes;
+pub use spots::{Purpose, resolve};

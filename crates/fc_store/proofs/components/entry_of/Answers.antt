@@ -1,4 +1,4 @@
-use Rattle.std.proofs.Common.{ap, sym, ◌∙◌, option_map}
+use Rattle.std.proofs.Common.{ap, sym, ◌∙◌}
 use Rattle.std.specs.FinMap.{get}
 use Rattle.fc_store.specs.Components.{cell_entry}
 use Rattle.fc_store.specs.Histories.{slot_cell}
