@@ -241,7 +241,7 @@ module _ {Config Op Subs M P C : Type 0} (g : Ground Config Op Subs) (law : Lawf
     able : Able w k c ps counts scopes
     able = record {
       runs = sym (like.masters k) ∙ ap (option_map ms.core) may.runs;
-      may = ap (λ v. begin_refusal c v counts scopes) (sym named) ∙ sym (fit.begins k m plan good).1.refused ∙ may.may;
+      may = ap (λ v. begin_refusal c v counts scopes) (sym named) ∙ sym (fit.begins k m plan good).refused ∙ may.may;
       rising = subst (λ v. rises_above 0 v ≡ true) named may.rising;
       scoped = λ p a. (idle_at p a).scoped;
       idle = λ p a. let i = idle_at p a in record {

@@ -9,7 +9,7 @@ use Rattle.fc_machine.specs.Messages.{Message, Setup, Beat, Response, Says, Noti
 use Rattle.fc_machine.specs.Messages as message
 use Rattle.fc_machine.specs.Trace.{Fact, Of_protocol, Added_at, Plain_at, bare_facts}
 use Rattle.fc_machine.specs.Views.{config_body, query_body, view, view_told, views, turns, circumstance_of}
-use Rattle.fc_machine.specs.WorldSteps.{Parcel, is_down, Spoke, Called, Masters, World, Step, Open, Deliver, Passes, Restart, Start, Stop, Begin, Change, Give_up, Resend, Forget, first_world, parcels, numbered, sender, with_step, with_spoke, to_master, delivers, may_start, starts, with_begun, called, begun_by, begin_at, change_at, give_up_at, forget_at, resend_at, happens, run, viewed, CallFits, MastersFit}
+use Rattle.fc_machine.specs.WorldSteps.{Parcel, is_down, Spoke, Called, Masters, World, Step, Open, Deliver, Passes, Restart, Start, Stop, Begin, Change, Give_up, Resend, Forget, first_world, parcels, numbered, sender, with_step, with_spoke, to_master, delivers, may_start, starts, with_begun, called, begun_by, begin_at, change_at, give_up_at, forget_at, resend_at, happens, run, viewed, MastersFit}
 use Rattle.fc_headline.proofs.Arriving.{moment_aside, arrives}
 use Rattle.fc_protocol.specs.Collections.{among, put}
 use Rattle.fc_protocol.specs.ElementMachine.{Circumstance, ElementState, Heard, only_says, hears}
@@ -233,29 +233,36 @@ module _ {Config Op Subs M P C : Type 0} (g : Ground Config Op Subs) (ms : Maste
       good = good_put v.masters k (Some r.master) l.good (λ b i. some_is r.master b i h);
     }
 
-    give_up_case : (v : W) (w : steps.World) (k : ℕ) (x : Txn) (m : M) (r : Called Op M) (o : Option Refusal) → Likes v w → Good r.spoke.master → CallFits ms r (give_up_refusal (ms.core m) x) (finish k (gives_up (ms.core m) x))
+    -- what a call that is not refused owes
+    abbrev Took : Called Op M → Speaks → Type 0
+    Took r now = Good r.spoke.master × (ms.core r.spoke.master ≡ now.master) × (viewed r.spoke.says ≡ now.says)
+
+    took_speaks : (v : W) (w : steps.World) (k : ℕ) (r : Called Op M) (now : Speaks) → Likes v w → Took r now → Likes (with_spoke g ms v k r.spoke) (steps.speaks w k [] now)
+    took_speaks v w k r now l t = spoke_speaks v w k r.spoke now l t.0 t.1 t.2
+
+    give_up_case : (v : W) (w : steps.World) (k : ℕ) (x : Txn) (m : M) (r : Called Op M) (o : Option Refusal) → Likes v w → (o ≡ None → Took r (finish k (gives_up (ms.core m) x)))
         → Likes (called g ms v k o r.spoke) (steps.give_up_by w k x (ms.core m) o)
-    give_up_case v w k x m r (Some z) l h f = l
-    give_up_case v w k x m r None l h f = spoke_speaks v w k r.spoke (finish k (gives_up (ms.core m) x)) l h f.core f.says
+    give_up_case v w k x m r (Some z) l t = l
+    give_up_case v w k x m r None l t = took_speaks v w k r (finish k (gives_up (ms.core m) x)) l (t refl)
 
     give_up_like : (v : W) (w : steps.World) (k : ℕ) (x : Txn) (o : Option M) → Likes v w → v.masters k ≡ o → Likes (give_up_at g ms v k x o) (steps.give_up_at w k x (option_map ms.core o))
     give_up_like v w k x None l e = l
     give_up_like v w k x (Some m) l e =
         let f = fit.gives_up k m x (l.good k m e) in
         let r = ms.gives_up k m x in
-        subst (λ o. Likes (called g ms v k o r.spoke) (steps.give_up_by w k x (ms.core m) (give_up_refusal (ms.core m) x))) (sym f.1.refused) (give_up_case v w k x m r (give_up_refusal (ms.core m) x) l f.0 f.1)
+        subst (λ o. Likes (called g ms v k o r.spoke) (steps.give_up_by w k x (ms.core m) (give_up_refusal (ms.core m) x))) (sym f.refused) (give_up_case v w k x m r (give_up_refusal (ms.core m) x) l f.taken)
 
-    change_case : (v : W) (w : steps.World) (k p : ℕ) (m : M) (r : Called Op M) (o : Option Refusal) → Likes v w → Good r.spoke.master → CallFits ms r (plain_refusal (ms.core m) p) (sends_one k (ms.core m) p (Some said.Plain))
+    change_case : (v : W) (w : steps.World) (k p : ℕ) (m : M) (r : Called Op M) (o : Option Refusal) → Likes v w → (o ≡ None → Took r (sends_one k (ms.core m) p (Some said.Plain)))
         → Likes (called g ms v k o r.spoke) (steps.change_by w k p (ms.core m) o)
-    change_case v w k p m r (Some z) l h f = l
-    change_case v w k p m r None l h f = spoke_speaks v w k r.spoke (sends_one k (ms.core m) p (Some said.Plain)) l h f.core f.says
+    change_case v w k p m r (Some z) l t = l
+    change_case v w k p m r None l t = took_speaks v w k r (sends_one k (ms.core m) p (Some said.Plain)) l (t refl)
 
     change_like : (v : W) (w : steps.World) (k p : ℕ) (c : C) (o : Option M) → Likes v w → v.masters k ≡ o → Likes (change_at g ms v k p c o) (steps.change_at w k p (option_map ms.core o))
     change_like v w k p c None l e = l
     change_like v w k p c (Some m) l e =
         let f = fit.changes k m p c (l.good k m e) in
         let r = ms.changes k m p c in
-        subst (λ o. Likes (called g ms v k o r.spoke) (steps.change_by w k p (ms.core m) (plain_refusal (ms.core m) p))) (sym f.1.refused) (change_case v w k p m r (plain_refusal (ms.core m) p) l f.0 f.1)
+        subst (λ o. Likes (called g ms v k o r.spoke) (steps.change_by w k p (ms.core m) (plain_refusal (ms.core m) p))) (sym f.refused) (change_case v w k p m r (plain_refusal (ms.core m) p) l f.taken)
 
     begun_like : (v : W) (w : steps.World) (b : Begun) → Likes v w → Likes (with_begun g ms v b) (steps.with_begun w b)
     begun_like v w b l = record {
@@ -263,12 +270,12 @@ module _ {Config Op Subs M P C : Type 0} (g : Ground Config Op Subs) (ms : Maste
       good = l.good;
     }
 
-    begin_case : (v : W) (w : steps.World) (k : ℕ) (plan : P) (m : M) (r : Called Op M) (o : Option Refusal) → Likes v w → Good r.spoke.master → CallFits ms r (begin_refusal (ms.core m) (ms.parts plan) (ms.counts plan) (ms.scopes plan)) (finish k (begins (ms.core m) (ms.parts plan) (ms.counts plan) (ms.scopes plan)))
+    begin_case : (v : W) (w : steps.World) (k : ℕ) (plan : P) (m : M) (r : Called Op M) (o : Option Refusal) → Likes v w → (o ≡ None → Took r (finish k (begins (ms.core m) (ms.parts plan) (ms.counts plan) (ms.scopes plan))))
         → Likes (begun_by g ms v k plan m o r.spoke) (steps.begin_by w k (ms.parts plan) (ms.counts plan) (ms.scopes plan) (ms.core m) o)
-    begin_case v w k plan m r (Some z) l h f = l
-    begin_case v w k plan m r None l h f =
+    begin_case v w k plan m r (Some z) l t = l
+    begin_case v w k plan m r None l t =
         let b : Begun = record { txn = next_txn (ms.core m); parts = ms.parts plan } in
-        spoke_speaks (with_begun g ms v b) (steps.with_begun w b) k r.spoke (finish k (begins (ms.core m) (ms.parts plan) (ms.counts plan) (ms.scopes plan))) (begun_like v w b l) h f.core f.says
+        took_speaks (with_begun g ms v b) (steps.with_begun w b) k r (finish k (begins (ms.core m) (ms.parts plan) (ms.counts plan) (ms.scopes plan))) (begun_like v w b l) (t refl)
 
     pub begin_like : (v : W) (w : steps.World) (k : ℕ) (plan : P) (o : Option M) → Likes v w → v.masters k ≡ o → Likes (begin_at g ms v k plan o) (steps.begin_at w k (ms.parts plan) (ms.counts plan) (ms.scopes plan) (option_map ms.core o))
     begin_like v w k plan None l e = l
@@ -276,19 +283,19 @@ module _ {Config Op Subs M P C : Type 0} (g : Ground Config Op Subs) (ms : Maste
         let f = fit.begins k m plan (l.good k m e) in
         let r = ms.begins k m plan in
         let n = begin_refusal (ms.core m) (ms.parts plan) (ms.counts plan) (ms.scopes plan) in
-        subst (λ o. Likes (begun_by g ms v k plan m o r.spoke) (steps.begin_by w k (ms.parts plan) (ms.counts plan) (ms.scopes plan) (ms.core m) n)) (sym f.1.refused) (begin_case v w k plan m r n l f.0 f.1)
+        subst (λ o. Likes (begun_by g ms v k plan m o r.spoke) (steps.begin_by w k (ms.parts plan) (ms.counts plan) (ms.scopes plan) (ms.core m) n)) (sym f.refused) (begin_case v w k plan m r n l f.taken)
 
-    forget_case : (v : W) (w : steps.World) (k : ℕ) (m : M) (r : Called Op M) (o : Option Refusal) → Likes v w → Good r.spoke.master → CallFits ms r (forget_refusal (ms.core m)) (finish k (forgets (ms.core m)))
+    forget_case : (v : W) (w : steps.World) (k : ℕ) (m : M) (r : Called Op M) (o : Option Refusal) → Likes v w → (o ≡ None → Took r (finish k (forgets (ms.core m))))
         → Likes (called g ms v k o r.spoke) (steps.forget_by w k (ms.core m) o)
-    forget_case v w k m r (Some z) l h f = l
-    forget_case v w k m r None l h f = spoke_speaks v w k r.spoke (finish k (forgets (ms.core m))) l h f.core f.says
+    forget_case v w k m r (Some z) l t = l
+    forget_case v w k m r None l t = took_speaks v w k r (finish k (forgets (ms.core m))) l (t refl)
 
     forget_like : (v : W) (w : steps.World) (k : ℕ) (o : Option M) → Likes v w → v.masters k ≡ o → Likes (forget_at g ms v k o) (steps.forget_at w k (option_map ms.core o))
     forget_like v w k None l e = l
     forget_like v w k (Some m) l e =
         let f = fit.forgets k m (l.good k m e) in
         let r = ms.forgets k m in
-        subst (λ o. Likes (called g ms v k o r.spoke) (steps.forget_by w k (ms.core m) (forget_refusal (ms.core m)))) (sym f.1.refused) (forget_case v w k m r (forget_refusal (ms.core m)) l f.0 f.1)
+        subst (λ o. Likes (called g ms v k o r.spoke) (steps.forget_by w k (ms.core m) (forget_refusal (ms.core m)))) (sym f.refused) (forget_case v w k m r (forget_refusal (ms.core m)) l f.taken)
 
     resend_like : (v : W) (w : steps.World) (k p : ℕ) (o : Option M) → Likes v w → v.masters k ≡ o → Likes (resend_at g ms v k p o) (steps.resend_at w k p (option_map ms.core o))
     resend_like v w k p None l e = l

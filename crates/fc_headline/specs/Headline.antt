@@ -29,7 +29,7 @@ abbrev pub Fenced : {Config Op Subs M : Type 0} → Ground Config Op Subs → Wo
 Fenced {Config} {Op} g w =
     (p k source : ℕ) (m : Configuring Op) → m.stamp.life < (w.at p).epoch → ((step g p (w.at p) (Arrived k source (Configure m))).element ≡ w.at p) × ((step g p (w.at p) (Arrived k source (Configure m))).facts ≡ [])
 
--- what a master counts as settled at a participant has been settled there, by the decision of the job
+-- what a master counts as settled whole has been settled at each participant, by the decision of the job
 abbrev pub Settles : {Config Op Subs M P C : Type 0} → Masters Op M P C → World Config Op Subs M → Type 0
 Settles {Config} {Op} {Subs} {M} ms w =
     (k : ℕ) (m : M) (j : Job) (p : ℕ) → w.masters k ≡ Some m → In j (ms.core m).jobs → is_settled j ≡ true → among p j.parts ≡ true → (d : Decision) × (j.decision ≡ Some d) × In (Of_protocol (Settled_at p j.txn d)) w.facts

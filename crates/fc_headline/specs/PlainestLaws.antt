@@ -49,10 +49,10 @@ pub plainest_fit : (Op : Type 0) → MastersFit (plainest Op) (λ _. Unit {0})
 plainest_fit Op = record {
   born = λ e es. (tt, refl);
   hears = λ k m p x g. (tt, refl, all_back Op m.changes (protocol.at_once k m.core p (view x) ++ (protocol.finish k (protocol.heard m.core p (view x))).says));
-  begins = λ k m plan g. (tt, record { refused = refl; core = refl; says = all_back Op (with_changes (protocol.next_txn m.core) plan.changes m.changes) (protocol.finish k (protocol.begins m.core plan.parts plan.counts plan.scopes)).says });
-  changes = λ k m p c g. (tt, record { refused = refl; core = refl; says = all_back Op m.changes (protocol.sends_one k m.core p (Some Plain)).says });
-  gives_up = λ k m x g. (tt, record { refused = refl; core = refl; says = all_back Op m.changes (protocol.finish k (protocol.gives_up m.core x)).says });
-  forgets = λ k m g. (tt, record { refused = refl; core = refl; says = all_back Op m.changes (protocol.finish k (protocol.forgets m.core)).says });
+  begins = λ k m plan g. record { refused = refl; taken = λ _. (tt, refl, all_back Op (with_changes (protocol.next_txn m.core) plan.changes m.changes) (protocol.finish k (protocol.begins m.core plan.parts plan.counts plan.scopes)).says) };
+  changes = λ k m p c g. record { refused = refl; taken = λ _. (tt, refl, all_back Op m.changes (protocol.sends_one k m.core p (Some Plain)).says) };
+  gives_up = λ k m x g. record { refused = refl; taken = λ _. (tt, refl, all_back Op m.changes (protocol.finish k (protocol.gives_up m.core x)).says) };
+  forgets = λ k m g. record { refused = refl; taken = λ _. (tt, refl, all_back Op m.changes (protocol.finish k (protocol.forgets m.core)).says) };
   resends = λ k m p g. all_back Op m.changes (protocol.again k p (m.core.at p).waits);
 }
 
