@@ -314,13 +314,14 @@ impl Source for Endless {
             return Err(Trouble::Failed);
         }
         let count = into.len().min(self.left);
-        self.left -= count;
+        let mut given = self.given;
         for byte in into[..count].iter_mut() {
-            let at = self.given % 24;
-            *byte = BEAT[at];
-            self.given = self.given.saturating_add(1);
+            *byte = BEAT[given % 24];
+            given = given.saturating_add(1);
         }
-        self.over = count == 0 || self.given > 67_108_864;
+        self.left -= count;
+        self.given = given;
+        self.over = count == 0 || given > 67_108_864;
         Ok(count)
     }
 }
