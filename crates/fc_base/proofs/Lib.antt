@@ -1,1 +1,3 @@
 pub mod Hexes
+pub mod HexTexts
+pub mod Pairs

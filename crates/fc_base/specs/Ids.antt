@@ -1,5 +1,5 @@
 -- What numbers are identifiers. Of RFC 5810, section 6.1, are the top two bits of the IDs; the rest is this profile's own.
-use Rattle.std.specs.Prelude.{◌≡◌, ◌<◌, ℕ, ◌/◌, ◌%◌, ◌^◌}
+use Rattle.std.specs.Prelude.{◌≡◌, ◌<◌, ℕ, ◌/◌, ◌%◌, ◌^◌, List, ◌∷◌, ◌++◌, decimal}
 
 -- the number is a forwarding element's ID
 abbrev pub IsFe : ℕ → Type 0
@@ -21,3 +21,7 @@ IsEpoch word = (0 < word / 256) × (0 < word % 256) × (word < 2 ^ 32)
 pub record Txn : Type 0 where
   pub epoch : ℕ
   pub number : ℕ
+
+-- how a transaction is printed: the epoch and the number in decimal, with a full stop between them
+abbrev pub txn_text : Txn → List ℕ
+txn_text txn = decimal txn.epoch ++ 46 ∷ decimal txn.number

@@ -2,6 +2,7 @@
 ghost use Rattle.std.specs.Prelude.{◌≡◌, ◌+◌, ◌*◌, ◌/◌, ◌%◌, ◌<◌, ◌^◌, IfSome, IfNone};
 ghost use Rattle.fc_base.specs.Ids.{IsFe, IsCe, IsEpoch, IsRound};
 
+use std::fmt;
 use std::marker::Model;
 
 /// The ID of a forwarding element: not 0, and its top two bits are 00 (RFC 5810, section 6.1).
@@ -154,7 +155,8 @@ impl Epoch {
     }
 }
 
-/// A transaction (this profile's own): the life that made it, and its number within that life, from 1.
+/// A transaction (this profile's own): the life that made it, and its number within that life, from 1. It prints as the word
+/// of the life and the number, both in decimal, with a full stop between them, as `257.1`.
 #[derive(Clone, Copy, Debug, PartialEq, Eq, PartialOrd, Ord, Hash)]
 pub struct TxnId {
     pub epoch: Epoch,
@@ -186,5 +188,18 @@ impl TxnId {
             return None;
         }
         Some(TxnId { epoch, number })
+    }
+}
+
+impl fmt::Display for TxnId {
+    ghost use Rattle.std.specs.Prelude.{Some};
+    ghost use Rattle.fc_base.specs.Ids.{txn_text};
+
+    ghost output = { λ txn. Some (txn_text txn) };
+
+    fn fmt<W: fmt::Write>(&self, f: &mut fmt::Formatter<W>) -> Result<(), fmt::Error> {
+        let epoch = self.epoch.get();
+        let number = self.number;
+        write!(f, "{epoch}.{number}")
     }
 }

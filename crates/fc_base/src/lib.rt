@@ -20,7 +20,9 @@ mod text;
 
 pub use boxed::Boxed;
 pub use code::Code;
-pub use digits::{eight_digits, sixteen_digits};
+pub use digits::{
+    digits_of_eight, digits_of_four, eight_digits, push_hex, sixteen_digits, two_digits,
+};
 pub use duplicate::Duplicate;
 pub use faults::{Memory, OpFault, Trouble, WriteFault};
 pub use ids::{CeId, Epoch, FeId, TxnId};

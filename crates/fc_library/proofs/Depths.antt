@@ -12,7 +12,7 @@ use Rattle.fc_types.specs.declared.ty.Ty.{Ty}
 use Rattle.fc_types.specs.declared.ty.Ty as v
 use Rattle.fc_library.specs.declared.names.TypeName.{TypeName}
 use Rattle.fc_library.specs.declared.names.TypeName.TheVariants as type
-use Rattle.fc_library.specs.Gives.{◌>>=◌}
+use Rattle.fc_base.specs.Answers.{◌>>=◌}
 use Rattle.fc_library.specs.Keys.{only, needed, tables, are_tables, one_table, tables_at, tables_or_none, table_at, text_at, number_at}
 use Rattle.fc_library.specs.Names.{named, type_at, type_keys}
 use Rattle.fc_library.specs.Types.{each, key, field_in, entry_in, type_in, type_by, type_of}

@@ -9,7 +9,7 @@ use Rattle.fc_types.specs.declared.fault.CheckFault.{CheckFault}
 use Rattle.fc_types.specs.declared.fault.CheckFault.TheVariants as checks
 use Rattle.fc_library.specs.declared.fault.LibFault.{LibFault}
 use Rattle.fc_library.specs.declared.fault.LibFault.TheVariants.{NotToml, Check, Memory}
-use Rattle.fc_library.specs.Gives.{◌>>=◌}
+use Rattle.fc_base.specs.Answers.{◌>>=◌}
 use Rattle.fc_library.specs.Declarations.{declaration}
 use Rattle.fc_library.specs.Documents.{document, checked_by, checked, library_in, library_of}
 use Rattle.fc_library.proofs.KeyFaults.{of_keys, declaration_keys}

@@ -6,7 +6,7 @@ use Rattle.fc_library.specs.declared.fault.LibFault.{LibFault}
 use Rattle.fc_library.specs.declared.fault.LibFault.TheVariants.{Unknown, Missing, WrongKind}
 use Rattle.fc_library.specs.declared.names.TypeName.{TypeName}
 use Rattle.fc_library.specs.declared.names.TypeName.TheVariants as type
-use Rattle.fc_library.specs.Gives.{◌>>=◌}
+use Rattle.fc_base.specs.Answers.{◌>>=◌}
 use Rattle.fc_library.specs.Keys.{unknown_keys, none_of, only, needed, given, found_or_wrong, number_in, number, number_at, number_or, integer_or, text, text_at, truth, truth_or, are_tables, tables, tables_at, tables_or_none, one_table, table_at, numbers_in, numbers, numbers_at}
 use Rattle.fc_library.specs.Names.{least, type_word, type_at, when_word, when_at}
 use Rattle.fc_library.specs.Types.{each, key, field_in, entry_in, struct_in, array_in, type_in, type_by, type_of}

@@ -6,7 +6,8 @@ use Rattle.toml.specs.declared.value.Value.{Value, Table}
 use Rattle.toml.proofs.Views.{view-Table, items_view-drop}
 use Rattle.fc_library.specs.declared.fault.LibFault.{LibFault}
 use Rattle.fc_library.specs.declared.fault.LibFault.TheVariants.{NotToml, Unknown, Missing, WrongKind, Check, Memory}
-use Rattle.fc_library.specs.Gives.{Gives, ◌>>=◌}
+use Rattle.fc_base.specs.Answers.{◌>>=◌}
+use Rattle.fc_library.specs.Gives.{Gives}
 use Rattle.fc_library.specs.Types.{each}
 use Rattle.fc_library.proofs.Depths.{item_depth}
 

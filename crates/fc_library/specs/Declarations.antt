@@ -6,7 +6,7 @@ use Rattle.toml.specs.Data.{Members}
 use Rattle.fc_types.specs.Components.{ComponentDecl}
 use Rattle.fc_types.specs.declared.class.EventDecl.{EventDecl}
 use Rattle.fc_types.specs.declared.class.Class.{Class}
-use Rattle.fc_library.specs.Gives.{◌>>=◌}
+use Rattle.fc_base.specs.Answers.{◌>>=◌}
 use Rattle.fc_library.specs.Keys.{only, number_at, number_or, text_at, truth_or, tables_or_none, numbers_at}
 use Rattle.fc_library.specs.Names.{named, type_at, type_keys, when_at}
 use Rattle.fc_library.specs.Types.{each, type_of}

@@ -9,7 +9,8 @@ use Rattle.fc_types.specs.Libraries.{AreRising, first_fault}
 use Rattle.fc_types.specs.declared.class.Class.{Class}
 use Rattle.fc_types.specs.declared.fault.CheckFault.{CheckFault}
 use Rattle.fc_library.specs.Declarations.{declaration}
-use Rattle.fc_library.specs.Gives.{Gives, ◌>>=◌}
+use Rattle.fc_base.specs.Answers.{◌>>=◌}
+use Rattle.fc_library.specs.Gives.{Gives}
 use Rattle.fc_library.specs.declared.fault.LibFault.{LibFault}
 use Rattle.fc_library.specs.declared.fault.LibFault.TheVariants.{NotToml, Check}
 

@@ -5,7 +5,7 @@ use Rattle.std.specs.Ordering.{nat_cmp, is_gt}
 use Rattle.std.specs.Cmp.Lexicographic.{slice_cmp}
 use Rattle.std.specs.Str.{bytes_eq}
 use Rattle.toml.specs.Data.{Data, string, array, boolean, table, Items, no_items, item, Members, no_members, member, get_member, as_integer, as_table}
-use Rattle.fc_library.specs.Gives.{◌>>=◌}
+use Rattle.fc_base.specs.Answers.{◌>>=◌}
 use Rattle.fc_library.specs.declared.fault.LibFault.{LibFault}
 use Rattle.fc_library.specs.declared.fault.LibFault.TheVariants.{Unknown, Missing, WrongKind}
 

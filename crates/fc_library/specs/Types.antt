@@ -5,7 +5,7 @@ use Rattle.fc_types.specs.declared.ty.KeyDecl.{KeyDecl}
 use Rattle.fc_types.specs.declared.ty.Field.{Field, roll-Field}
 use Rattle.fc_types.specs.declared.ty.Ty.{Ty}
 use Rattle.fc_types.specs.declared.ty.Ty as v
-use Rattle.fc_library.specs.Gives.{◌>>=◌}
+use Rattle.fc_base.specs.Answers.{◌>>=◌}
 use Rattle.fc_library.specs.Keys.{only, number_at, integer_or, text_at, tables_at, tables_or_none, table_at, numbers_at}
 use Rattle.fc_library.specs.Names.{width, is_signed, least, greatest, named, type_at, type_keys}
 use Rattle.fc_library.specs.declared.fault.LibFault.{LibFault}

@@ -6,6 +6,7 @@ use Rattle.fc_base.specs.declared.faults.WriteFault.{WriteFault}
 use Rattle.fc_base.specs.declared.faults.WriteFault.TheVariants as faults
 use Rattle.fc_wire.specs.Bytes.{u16_bytes, u32_bytes}
 use Rattle.fc_wire.specs.Writing.{Writing, writing, tlv_bytes, ilv_bytes}
+use Rattle.fc_wire.specs.Types as types
 use Rattle.fc_wire.specs.declared.ilvs.Ilv.{Ilv}
 use Rattle.fc_path.specs.Kinds.{number_of}
 use Rattle.fc_path.specs.declared.oper.Oper.{Oper}
@@ -42,12 +43,12 @@ ilv_written ilv = record { text = ilv_bytes ilv.ident ilv.value; fits = nat_lt (
 
 -- a RESULT
 abbrev pub result_written : ℕ → Written
-result_written code = wrapped 276 (plain (code ∷ 0 ∷ 0 ∷ 0 ∷ []))
+result_written code = wrapped types.outcome (plain (code ∷ 0 ∷ 0 ∷ 0 ∷ []))
 
 -- a KEYINFO, where there is a key, and the flag that says so
 abbrev pub key_written : Option Key → Written
 key_written None = plain []
-key_written (Some key) = wrapped 273 (after (plain (u32_bytes key.ident)) (wrapped 274 (plain key.value)))
+key_written (Some key) = wrapped types.key_info (after (plain (u32_bytes key.ident)) (wrapped types.full_data (plain key.value)))
 
 abbrev pub key_flags : Option Key → ℕ
 key_flags None = 0
@@ -55,13 +56,13 @@ key_flags (Some key) = 2 ^ 15
 
 abbrev pub body_step : Body-F Written Written → Written
 body_step Body-F.Nothing = plain []
-body_step (Body-F.Full value) = wrapped 274 (plain value)
-body_step (Body-F.Sparse ilvs) = wrapped 275 (joined (map ilv_written ilvs))
+body_step (Body-F.Full value) = wrapped types.full_data (plain value)
+body_step (Body-F.Sparse ilvs) = wrapped types.sparse_data (joined (map ilv_written ilvs))
 body_step (Body-F.Outcome code) = result_written code
 body_step (Body-F.Nested ws) = joined ws
 
 abbrev pub path_step : PathData-F Written Written → Written
-path_step p = wrapped 272 (record {
+path_step p = wrapped types.path_data (record {
   text = u16_bytes (key_flags p.key) ++ u16_bytes (length p.ids) ++ flat_map u32_bytes p.ids ++ ((key_written p.key).text ++ p.body.text);
   fits = nat_lt (length p.ids) 65536 && ((key_written p.key).fits && p.body.fits);
 })
@@ -74,13 +75,13 @@ path_written = fold-PathData Written Written body_step path_step
 
 abbrev pub oper_written : Oper → Written
 oper_written (oper.Paths kind paths) = wrapped (number_of kind) (joined (map path_written paths))
-oper_written oper.Commit = wrapped 12 (plain [])
-oper_written oper.Trcomp = wrapped 14 (plain [])
-oper_written (oper.CommitResponse code) = wrapped 13 (result_written code)
+oper_written oper.Commit = wrapped types.commit (plain [])
+oper_written oper.Trcomp = wrapped types.trcomp (plain [])
+oper_written (oper.CommitResponse code) = wrapped types.commit_response (result_written code)
 
 abbrev pub select_written : Select → Written
 select_written s =
-    wrapped 4096 (after (plain (u32_bytes s.class ++ u32_bytes s.instance)) (joined (map oper_written s.opers)))
+    wrapped types.select (after (plain (u32_bytes s.class ++ u32_bytes s.instance)) (joined (map oper_written s.opers)))
 
 -- what writing did: it appended the spelling, whose lengths fit; or a length does not fit; or memory was wanting
 abbrev pub Pushed : Result (Unit {0}) WriteFault → Writing → Writing → Written → Type 0

@@ -5,6 +5,7 @@ use Rattle.std.specs.List.{flat_map}
 use Rattle.fc_wire.specs.Bytes.{u16_bytes, u32_bytes}
 use Rattle.fc_wire.specs.Tlvs.{TlvItem, IsTlv}
 use Rattle.fc_wire.specs.Ilvs.{IsIlv}
+use Rattle.fc_wire.specs.Types as types
 use Rattle.fc_wire.specs.declared.ilvs.Ilv.{Ilv}
 use Rattle.fc_path.specs.Kinds.{operation_of, holds_selects, takes_nothing, takes_full, takes_sparse, takes_outcome}
 use Rattle.fc_path.specs.declared.kinds.Operation.TheVariants as operation
@@ -24,7 +25,7 @@ Each Is (x ∷ xs) bytes = (front : List ℕ) × (back : List ℕ) × (bytes ≡
 
 -- a RESULT of a code
 abbrev pub IsResult : ℕ → List ℕ → Type 0
-IsResult code bytes = (free : List ℕ) × (length free ≡ 3) × IsTlv 276 (code ∷ free) (code ∷ free) bytes
+IsResult code bytes = (free : List ℕ) × (length free ≡ 3) × IsTlv types.outcome (code ∷ free) (code ∷ free) bytes
 
 -- an ILV of a SPARSEDATA
 abbrev pub IsOwnIlv : Ilv → List ℕ → Type 0
@@ -33,19 +34,19 @@ IsOwnIlv ilv bytes = IsIlv ilv.ident ilv.value bytes
 -- a KEYINFO: the number of the key, and one FULLDATA
 abbrev pub IsKey : Key → List ℕ → Type 0
 IsKey key bytes =
-    (body : List ℕ) × (padded : List ℕ) × (full : List ℕ) × (all : List ℕ) × IsTlv 273 body padded bytes
-    × (padded ≡ u32_bytes key.ident ++ full) × IsTlv 274 key.value all full
+    (body : List ℕ) × (padded : List ℕ) × (full : List ℕ) × (all : List ℕ) × IsTlv types.key_info body padded bytes
+    × (padded ≡ u32_bytes key.ident ++ full) × IsTlv types.full_data key.value all full
 
 -- a PATH-DATA whose padded value is related to it by V
 abbrev pub IsPathBy : (PathData → List ℕ → Type 0) → PathData → List ℕ → Type 0
-IsPathBy V path bytes = (body : List ℕ) × (padded : List ℕ) × IsTlv 272 body padded bytes × V path padded
+IsPathBy V path bytes = (body : List ℕ) × (padded : List ℕ) × IsTlv types.path_data body padded bytes × V path padded
 
 -- the body of a PATH-DATA of an operation: the leaf that the operation has, or more PATH-DATA
 abbrev pub IsBody : OperKind → (PathData → List ℕ → Type 0) → Body-F Body PathData → List ℕ → Type 0
 IsBody kind V Body-F.Nothing bytes = (takes_nothing kind ≡ true) × (bytes ≡ [])
-IsBody kind V (Body-F.Full value) bytes = (takes_full kind ≡ true) × (padded : List ℕ) × IsTlv 274 value padded bytes
+IsBody kind V (Body-F.Full value) bytes = (takes_full kind ≡ true) × (padded : List ℕ) × IsTlv types.full_data value padded bytes
 IsBody kind V (Body-F.Sparse ilvs) bytes =
-    (takes_sparse kind ≡ true) × (body : List ℕ) × (padded : List ℕ) × IsTlv 275 body padded bytes × Each IsOwnIlv ilvs padded
+    (takes_sparse kind ≡ true) × (body : List ℕ) × (padded : List ℕ) × IsTlv types.sparse_data body padded bytes × Each IsOwnIlv ilvs padded
 IsBody kind V (Body-F.Outcome code) bytes = (takes_outcome kind ≡ true) × IsResult code bytes
 IsBody kind V (Body-F.Nested paths) bytes = (0 < length paths) × Each (IsPathBy V) paths bytes
 
@@ -92,10 +93,10 @@ IsSelectValue message select padded =
 
 -- a TLV that is the select, in a message of a type
 abbrev pub IsSelectOf : ℕ → Select → TlvItem → Type 0
-IsSelectOf message select tlv = (tlv.kind ≡ 4096) × (holds_selects message ≡ true) × IsSelectValue message select tlv.padded
+IsSelectOf message select tlv = (tlv.kind ≡ types.select) × (holds_selects message ≡ true) × IsSelectValue message select tlv.padded
 
 -- bytes that are the select, in a message of a type
 abbrev pub IsSelect : ℕ → Select → List ℕ → Type 0
 IsSelect message select bytes =
-    (body : List ℕ) × (padded : List ℕ) × (holds_selects message ≡ true) × IsTlv 4096 body padded bytes
+    (body : List ℕ) × (padded : List ℕ) × (holds_selects message ≡ true) × IsTlv types.select body padded bytes
     × IsSelectValue message select padded

@@ -1,6 +1,7 @@
 -- The types of TLVs and of operations, and where each may stand: RFC 5810, section 7.1.6 and appendix A. That
 -- SPARSEDATA is the one body of a SET-PROP is this profile's own.
 use Rattle.std.specs.Prelude.{ℕ, ◌==◌, ◌&&◌, ◌||◌, not, nat_lt, Bool, true, false, List, [], ◌∷◌, Option, Some, None, if◌then◌else◌}
+use Rattle.fc_wire.specs.Types as types
 use Rattle.fc_path.specs.declared.oper.OperKind.{OperKind}
 use Rattle.fc_path.specs.declared.oper.OperKind.TheVariants as kinds
 use Rattle.fc_path.specs.declared.kinds.Operation.{Operation}
@@ -9,7 +10,7 @@ use Rattle.fc_path.specs.declared.kinds.Operation.TheVariants as operation
 -- the types that are in a table where no operation may stand: REDIRECT, ASResult, ASTreason, LFBselect, and those from
 -- PATH-DATA to REDIRECTDATA
 abbrev pub is_known : ℕ → Bool
-is_known kind = kind == 1 || kind == 16 || kind == 17 || kind == 4096 || (not (nat_lt kind 272) && not (nat_lt 278 kind))
+is_known kind = kind == 1 || kind == 16 || kind == 17 || kind == types.select || (not (nat_lt kind types.path_data) && not (nat_lt 278 kind))
 
 -- inside an LFBselect the operations too
 abbrev pub in_select : ℕ → Bool
@@ -32,15 +33,15 @@ operations =
     ∷ row 3 1 (operation.Paths kinds.Set)
     ∷ row 3 2 (operation.Paths kinds.SetProp)
     ∷ row 3 5 (operation.Paths kinds.Del)
-    ∷ row 3 12 operation.Commit
-    ∷ row 3 14 operation.Trcomp
+    ∷ row 3 types.commit operation.Commit
+    ∷ row 3 types.trcomp operation.Trcomp
     ∷ row 4 7 (operation.Paths kinds.Get)
     ∷ row 4 8 (operation.Paths kinds.GetProp)
     ∷ row 5 11 (operation.Paths kinds.Report)
     ∷ row 19 3 (operation.Paths kinds.SetResponse)
     ∷ row 19 4 (operation.Paths kinds.SetPropResponse)
     ∷ row 19 6 (operation.Paths kinds.DelResponse)
-    ∷ row 19 13 operation.CommitResponse
+    ∷ row 19 types.commit_response operation.CommitResponse
     ∷ row 20 9 (operation.Paths kinds.GetResponse)
     ∷ row 20 10 (operation.Paths kinds.GetPropResponse)
     ∷ []

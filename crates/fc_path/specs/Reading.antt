@@ -4,6 +4,7 @@ use Rattle.std.specs.Prelude.{ℕ, zero, suc, ◌+◌, ◌*◌, ◌/◌, ◌^◌
 use Rattle.fc_wire.specs.Bytes.{u16_at, u32_at}
 use Rattle.fc_wire.specs.Tlvs.{TlvItem, tlvs}
 use Rattle.fc_wire.specs.Ilvs.{IlvItem, ilvs}
+use Rattle.fc_wire.specs.Types as types
 use Rattle.fc_wire.specs.declared.header.WireFault.{WireFault}
 use Rattle.fc_wire.specs.declared.header.WireFault.TheVariants as wire
 use Rattle.fc_wire.specs.declared.ilvs.Ilv.{Ilv}
@@ -68,20 +69,20 @@ sparse_at tlv = sparse_in (ilvs (tlv.place + 4) tlv.padded).items (ilvs (tlv.pla
 abbrev pub key_at : TlvItem → Result Key PathFault
 key_at tlv =
     if nat_lt (length tlv.body) 4 then Err (faults.Wire (wire.TlvShort tlv.place))
-    else single 274 full_at (end_of tlv) (tlvs (tlv.place + 8) (drop 4 tlv.padded)).items (tlvs (tlv.place + 8) (drop 4 tlv.padded)).fault
+    else single types.full_data full_at (end_of tlv) (tlvs (tlv.place + 8) (drop 4 tlv.padded)).items (tlvs (tlv.place + 8) (drop 4 tlv.padded)).fault
     >>= λ value. Ok (record { ident = u32_at tlv.padded 0; value = value })
 
 -- the body of a PATH-DATA that holds no others
 abbrev pub leaf_at : OperKind → TlvItem → Result Body PathFault
 leaf_at kind tlv =
-    if tlv.kind == 274 && takes_full kind then Ok (body.Full tlv.body)
-    else (if tlv.kind == 275 && takes_sparse kind then sparse_at tlv >>= (λ ilvs. Ok (body.Sparse ilvs))
-    else (if tlv.kind == 276 && takes_outcome kind then outcome_at tlv >>= (λ code. Ok (body.Outcome code))
+    if tlv.kind == types.full_data && takes_full kind then Ok (body.Full tlv.body)
+    else (if tlv.kind == types.sparse_data && takes_sparse kind then sparse_at tlv >>= (λ ilvs. Ok (body.Sparse ilvs))
+    else (if tlv.kind == types.outcome && takes_outcome kind then outcome_at tlv >>= (λ code. Ok (body.Outcome code))
     else Err (misplaced tlv)))
 
 -- a PATH-DATA, where no other TLV may stand
 abbrev pub path_or : (TlvItem → PathFault) → (TlvItem → Result PathData PathFault) → TlvItem → Result PathData PathFault
-path_or stray one tlv = if tlv.kind == 272 then one tlv else Err (stray tlv)
+path_or stray one tlv = if tlv.kind == types.path_data then one tlv else Err (stray tlv)
 
 -- the PATH-DATA that a PATH-DATA holds, after the first of them
 abbrev pub nested_in : (TlvItem → Result PathData PathFault) → TlvItem → List TlvItem → Option WireFault → Result (List PathData) PathFault
@@ -92,7 +93,7 @@ abbrev pub body_in : OperKind → (TlvItem → Result PathData PathFault) → �
 body_in kind one end [] None = if takes_nothing kind then Ok body.Nothing else Err (faults.WrongBody end)
 body_in kind one end [] (Some fault) = Err (faults.Wire fault)
 body_in kind one end (tlv ∷ tlvs) fault =
-    if tlv.kind == 272 then nested_in one tlv tlvs fault >>= (λ paths. Ok (body.Nested paths))
+    if tlv.kind == types.path_data then nested_in one tlv tlvs fault >>= (λ paths. Ok (body.Nested paths))
     else leaf_at kind tlv >>= (λ leaf. shut beside tlvs fault >>= λ _. Ok leaf)
 
 -- what stands behind the IDs of the PATH-DATA at a place: a KEYINFO exactly where the key flag is set, and the body
@@ -103,9 +104,9 @@ content_in kind one place keyed end [] (Some fault) = Err (faults.Wire fault)
 content_in kind one place keyed end (tlv ∷ tlvs) fault =
     if not (is_known tlv.kind) then Err (faults.UnknownTlv tlv.place)
     else (if keyed
-    then (if tlv.kind == 273 then key_at tlv >>= (λ key. body_in kind one end tlvs fault >>= λ b. Ok (Some key, b))
+    then (if tlv.kind == types.key_info then key_at tlv >>= (λ key. body_in kind one end tlvs fault >>= λ b. Ok (Some key, b))
     else Err (faults.KeyFlag (place + 4)))
-    else (if tlv.kind == 273 then Err (faults.KeyFlag (place + 4))
+    else (if tlv.kind == types.key_info then Err (faults.KeyFlag (place + 4))
     else body_in kind one end (tlv ∷ tlvs) fault >>= (λ b. Ok (None, b))))
 
 -- so many numbers of four bytes
@@ -131,7 +132,7 @@ operation_at (operation.Paths kind) tlv =
 operation_at operation.Commit tlv = if length tlv.body == 0 then Ok oper.Commit else Err (faults.WrongBody tlv.place)
 operation_at operation.Trcomp tlv = if length tlv.body == 0 then Ok oper.Trcomp else Err (faults.WrongBody tlv.place)
 operation_at operation.CommitResponse tlv =
-    single 276 outcome_at (end_of tlv) (tlvs (tlv.place + 4) tlv.padded).items (tlvs (tlv.place + 4) tlv.padded).fault
+    single types.outcome outcome_at (end_of tlv) (tlvs (tlv.place + 4) tlv.padded).items (tlvs (tlv.place + 4) tlv.padded).fault
     >>= λ code. Ok (oper.CommitResponse code)
 
 -- a TLV that may be an operation, or one that may not stand inside an LFBselect
@@ -145,7 +146,7 @@ oper_at message tlv = oper_by (operation_of message tlv.kind) tlv
 -- an LFBselect of a message of a type
 abbrev pub select_at : ℕ → TlvItem → Result Select PathFault
 select_at message tlv =
-    if not (tlv.kind == 4096) || not (holds_selects message) then Err (misplaced tlv)
+    if not (tlv.kind == types.select) || not (holds_selects message) then Err (misplaced tlv)
     else (if nat_lt (length tlv.body) 8 then Err (faults.Wire (wire.TlvShort tlv.place))
     else some_in (oper_at message) (end_of tlv) (tlvs (tlv.place + 12) (drop 8 tlv.padded)).items (tlvs (tlv.place + 12) (drop 8 tlv.padded)).fault
     >>= (λ opers. Ok (record { class = u32_at tlv.padded 0; instance = u32_at tlv.padded 4; opers = opers })))

@@ -7,6 +7,7 @@ use Rattle.fc_wire.specs.Bytes.{u16_at}
 use Rattle.fc_wire.specs.Tiling.{Tiling}
 use Rattle.fc_wire.specs.Tlvs.{TlvItem, tlvs}
 use Rattle.fc_wire.specs.Ilvs.{IlvItem, ilvs}
+use Rattle.fc_wire.specs.Types as types
 use Rattle.fc_wire.specs.declared.header.WireFault.{WireFault}
 use Rattle.fc_wire.specs.declared.header.WireFault.TheVariants as wire
 use Rattle.fc_path.specs.Kinds.{is_known, in_select, operation_of, holds_selects, takes_nothing, takes_full, takes_sparse, takes_outcome}
@@ -62,7 +63,7 @@ pub data Slot : Type 0 where
 -- the types of bodies of a PATH-DATA
 abbrev pub is_body : OperKind → ℕ → Bool
 is_body kind n =
-    n == 272 || ((n == 274 && takes_full kind) || ((n == 275 && takes_sparse kind) || (n == 276 && takes_outcome kind)))
+    n == types.path_data || ((n == types.full_data && takes_full kind) || ((n == types.sparse_data && takes_sparse kind) || (n == types.outcome && takes_outcome kind)))
 
 -- whether a TLV may stand there
 abbrev pub oper_stands : Option Operation → TlvItem → Option PathFault
@@ -71,20 +72,20 @@ oper_stands None tlv = Some (if in_select tlv.kind then faults.WrongBody tlv.pla
 
 abbrev pub stands : Slot → TlvItem → Option PathFault
 stands (oper message some) tlv = oper_stands (operation_of message tlv.kind) tlv
-stands (path some) tlv = unless (tlv.kind == 272) (misplaced tlv)
+stands (path some) tlv = unless (tlv.kind == types.path_data) (misplaced tlv)
 stands (only kind) tlv = unless (tlv.kind == kind) (misplaced tlv)
 stands past tlv = Some (trailing tlv)
 stands (opening kind place keyed) tlv =
     if not (is_known tlv.kind) then Some (faults.UnknownTlv tlv.place)
-    else (if keyed then unless (tlv.kind == 273) (faults.KeyFlag (place + 4))
-    else (if tlv.kind == 273 then Some (faults.KeyFlag (place + 4)) else unless (is_body kind tlv.kind) (misplaced tlv)))
+    else (if keyed then unless (tlv.kind == types.key_info) (faults.KeyFlag (place + 4))
+    else (if tlv.kind == types.key_info then Some (faults.KeyFlag (place + 4)) else unless (is_body kind tlv.kind) (misplaced tlv)))
 stands (body kind) tlv = unless (is_body kind tlv.kind) (misplaced tlv)
-stands nested tlv = unless (tlv.kind == 272) (beside tlv)
+stands nested tlv = unless (tlv.kind == types.path_data) (beside tlv)
 stands leaf tlv = Some (beside tlv)
 
 -- where the TLV behind it stands
 abbrev pub behind_body : TlvItem → Slot
-behind_body tlv = if tlv.kind == 272 then nested else leaf
+behind_body tlv = if tlv.kind == types.path_data then nested else leaf
 
 abbrev pub behind : Slot → TlvItem → Slot
 behind (oper message some) tlv = oper message true
@@ -140,7 +141,7 @@ nothing tlv = []
 abbrev pub key_visits : TlvItem → List Visit
 key_visits tlv =
     visit tlv.place (unless (not (nat_lt (length tlv.body) 4)) (faults.Wire (wire.TlvShort tlv.place)))
-    ∷ walk nothing (only 274) (end_of tlv) (tlvs (tlv.place + 8) (drop 4 tlv.padded))
+    ∷ walk nothing (only types.full_data) (end_of tlv) (tlvs (tlv.place + 8) (drop 4 tlv.padded))
 
 abbrev pub sparse_visits : TlvItem → List Visit
 sparse_visits tlv = ilv_walk (end_of tlv) (ilvs (tlv.place + 4) tlv.padded)
@@ -151,10 +152,10 @@ outcome_visits tlv = visit tlv.place (unless (length tlv.body == 4) (faults.Wron
 -- those of a TLV in an operation, by those of a PATH-DATA
 abbrev pub data_visits : (TlvItem → List Visit) → TlvItem → List Visit
 data_visits paths tlv =
-    if tlv.kind == 272 then paths tlv
-    else (if tlv.kind == 273 then key_visits tlv
-    else (if tlv.kind == 275 then sparse_visits tlv
-    else (if tlv.kind == 276 then outcome_visits tlv else [])))
+    if tlv.kind == types.path_data then paths tlv
+    else (if tlv.kind == types.key_info then key_visits tlv
+    else (if tlv.kind == types.sparse_data then sparse_visits tlv
+    else (if tlv.kind == types.outcome then outcome_visits tlv else [])))
 
 -- those of a PATH-DATA, below which so many levels less one may stand
 abbrev pub path_visits : OperKind → ℕ → TlvItem → List Visit
@@ -171,7 +172,7 @@ operation_visits (operation.Paths kind) tlv =
 operation_visits operation.Commit tlv = visit tlv.place (unless (length tlv.body == 0) (faults.WrongBody tlv.place)) ∷ []
 operation_visits operation.Trcomp tlv = visit tlv.place (unless (length tlv.body == 0) (faults.WrongBody tlv.place)) ∷ []
 operation_visits operation.CommitResponse tlv =
-    walk outcome_visits (only 276) (end_of tlv) (tlvs (tlv.place + 4) tlv.padded)
+    walk outcome_visits (only types.outcome) (end_of tlv) (tlvs (tlv.place + 4) tlv.padded)
 
 abbrev pub oper_visits_by : Option Operation → TlvItem → List Visit
 oper_visits_by (Some which) tlv = operation_visits which tlv
@@ -183,6 +184,6 @@ oper_visits message tlv = oper_visits_by (operation_of message tlv.kind) tlv
 -- those of a TLV of a message of a type, which is to be an LFBselect
 abbrev pub select_visits : ℕ → TlvItem → List Visit
 select_visits message tlv =
-    visit tlv.place (unless (not (not (tlv.kind == 4096) || not (holds_selects message))) (misplaced tlv))
+    visit tlv.place (unless (not (not (tlv.kind == types.select) || not (holds_selects message))) (misplaced tlv))
     ∷ visit tlv.place (unless (not (nat_lt (length tlv.body) 8)) (faults.Wire (wire.TlvShort tlv.place)))
     ∷ walk (oper_visits message) (oper message false) (end_of tlv) (tlvs (tlv.place + 12) (drop 8 tlv.padded))

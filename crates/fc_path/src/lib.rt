@@ -28,8 +28,5 @@ pub use path::{Body, Key, PathData};
 pub use read_path::{read_only_outcome, read_outcome};
 pub use read_select::are_bytes;
 pub use results::fits_results;
-pub use stray::{
-    FULL_DATA, PATH_DATA, RESULT, SELECT, SPARSE_DATA, beside, is_known_in_select, misplaced,
-    no_more, no_more_bodies,
-};
-pub use write::{put_ids, put_u32, write_leaf, write_outcome, write_response};
+pub use stray::{beside, is_known_in_select, misplaced, no_more, no_more_bodies};
+pub use write::{put_ids, write_leaf, write_outcome, write_response};

@@ -8,10 +8,10 @@ ghost use Rattle.fc_path.specs.Reading.{some_in, path_or, path_at, oper_at, oper
 
 use crate::kinds::{Operation, holds_selects, operation_for};
 use crate::read_path::{read_only_outcome, read_path};
-use crate::stray::{PATH_DATA, SELECT, is_known_in_select, misplaced};
+use crate::stray::{is_known_in_select, misplaced};
 use crate::{Oper, OperKind, PathData, PathFault, Select};
 use fc_base::{Code, List};
-use fc_wire::{Tlv, Tlvs, WireFault, read_u32};
+use fc_wire::{PATH_DATA, SELECT, Tlv, Tlvs, WireFault, read_u32};
 use std::alloc::Global;
 
 /// How deep PATH-DATA may nest.

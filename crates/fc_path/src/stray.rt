@@ -4,20 +4,7 @@ ghost use Rattle.fc_path.specs.Kinds.{is_known as known, in_select};
 ghost use Rattle.fc_path.specs.Stray.{Gives, misplaced as is_misplaced, beside as is_beside, trailing as is_trailing, shut};
 
 use crate::PathFault;
-use fc_wire::{Tlv, Tlvs};
-
-/// The type of an LFBselect.
-pub const SELECT: u16 = 0x1000;
-/// The type of a PATH-DATA.
-pub const PATH_DATA: u16 = 0x0110;
-/// The type of a KEYINFO.
-pub const KEY_INFO: u16 = 0x0111;
-/// The type of a FULLDATA.
-pub const FULL_DATA: u16 = 0x0112;
-/// The type of a SPARSEDATA.
-pub const SPARSE_DATA: u16 = 0x0113;
-/// The type of a RESULT.
-pub const RESULT: u16 = 0x0114;
+use fc_wire::{SELECT, Tlv, Tlvs};
 
 /// Whether a type is in a table, where no operation may stand.
 #[inline(always)]

@@ -3,50 +3,26 @@ ghost use Rattle.std.specs.Prelude.{◌≡◌, ◌++◌, ◌≤◌, ◌<◌, tru
 ghost use Rattle.std.specs.List.{flat_map};
 ghost use Rattle.std.specs.Result.{IsErrOf};
 ghost use Rattle.fc_base.specs.declared.faults.WriteFault.TheVariants.{TooLong};
-ghost use Rattle.fc_wire.specs.Bytes.{u16_bytes, u32_bytes};
-ghost use Rattle.fc_wire.specs.Writing.{writing, padding};
+ghost use Rattle.fc_wire.specs.Bytes.{u32_bytes};
+ghost use Rattle.fc_wire.specs.Types as types;
+ghost use Rattle.fc_wire.specs.Writing.{writing};
 ghost use Rattle.fc_path.specs.Canon.{Pushed, plain, wrapped, joined, ilv_written, result_written, key_written, key_flags, body_written, path_written, oper_written, select_written};
 
-use crate::stray::{FULL_DATA, KEY_INFO, PATH_DATA, RESULT, SELECT, SPARSE_DATA};
 use crate::{Body, Key, Oper, PathData, Select};
 use fc_base::{Code, Memory, WriteFault};
-use fc_wire::{Ilv, TlvWriter};
-
-fn put_u16(to: &mut TlvWriter, n: u16) -> Result<(), Memory>
-    ensures { OnOk result (to.new ≡ writing (to.old.text ++ u16_bytes n) to.old.places) }
-{
-    to.put(&[(n / 256) as u8, (n % 256) as u8])
-}
-
-/// Puts a number of four bytes.
-pub fn put_u32(to: &mut TlvWriter, n: u32) -> Result<(), Memory>
-    ensures { OnOk result (to.new ≡ writing (to.old.text ++ u32_bytes n) to.old.places) }
-{
-    to.put(&[
-        (n / 0x0100_0000) as u8,
-        (n / 0x0001_0000 % 256) as u8,
-        (n / 256 % 256) as u8,
-        (n % 256) as u8,
-    ])
-}
+use fc_wire::{
+    COMMIT, COMMIT_RESPONSE, FULL_DATA, Ilv, KEY_INFO, PATH_DATA, RESULT, SELECT, SPARSE_DATA, TRCOMP,
+    TlvWriter,
+};
 
 /// Puts IDs, each in four bytes.
 pub fn put_ids(to: &mut TlvWriter, ids: &[u32]) -> Result<(), Memory>
     ensures { OnOk result (to.new ≡ writing (to.old.text ++ flat_map u32_bytes ids.now) to.old.places) }
 {
     for id in ids {
-        put_u32(to, *id)?;
+        to.put_u32(*id)?;
     }
     Ok(())
-}
-
-// The zeros that a length lacks to a multiple of four.
-#[tactic(auto, unfolding(fc_wire::specs::Writing::padding))]
-fn put_padding(to: &mut TlvWriter, len: usize) -> Result<(), Memory>
-    ensures { OnOk result (to.new ≡ writing (to.old.text ++ padding len) to.old.places) }
-{
-    let zeros = [0u8; 3];
-    to.put(&zeros[..(4 - len % 4) % 4])
 }
 
 /// Writes a TLV that holds these bytes.
@@ -73,10 +49,10 @@ fn write_ilv(to: &mut TlvWriter, ilv: &Ilv) -> Result<(), WriteFault>
     if len > 0xffff_fff7 {
         return Err(WriteFault::TooLong);
     }
-    put_u32(to, ilv.ident)?;
-    put_u32(to, (len + 8) as u32)?;
+    to.put_u32(ilv.ident)?;
+    to.put_u32((len + 8) as u32)?;
     to.put(ilv.value.as_slice())?;
-    put_padding(to, len)?;
+    to.put_padding(len)?;
     Ok(())
 }
 
@@ -91,7 +67,7 @@ fn write_ilvs(to: &mut TlvWriter, ilvs: &[Ilv]) -> Result<(), WriteFault>
 
 // A SPARSEDATA.
 fn write_sparse(to: &mut TlvWriter, ilvs: &[Ilv]) -> Result<(), WriteFault>
-    ensures { Pushed result to.old to.new (wrapped 275 (joined (map ilv_written ilvs.now))) }
+    ensures { Pushed result to.old to.new (wrapped types.sparse_data (joined (map ilv_written ilvs.now))) }
 {
     let begun = to.begin(SPARSE_DATA)?;
     write_ilvs(to, ilvs)?;
@@ -106,7 +82,7 @@ fn write_key(to: &mut TlvWriter, key: &Option<Key>) -> Result<(), WriteFault>
         None => Ok(()),
         Some(key) => {
             let begun = to.begin(KEY_INFO)?;
-            put_u32(to, key.ident)?;
+            to.put_u32(key.ident)?;
             write_leaf(to, FULL_DATA, key.value.as_slice())?;
             to.end(begun)
         }
@@ -132,8 +108,8 @@ fn write_path(to: &mut TlvWriter, path: &PathData) -> Result<(), WriteFault>
         return Err(WriteFault::TooLong);
     }
     let begun = to.begin(PATH_DATA)?;
-    put_u16(to, flags_of(&path.key))?;
-    put_u16(to, count as u16)?;
+    to.put_u16(flags_of(&path.key))?;
+    to.put_u16(count as u16)?;
     put_ids(to, path.ids.as_slice())?;
     write_key(to, &path.key)?;
     write_body(to, &path.body)?;
@@ -174,9 +150,9 @@ fn write_operation(to: &mut TlvWriter, kind: u16, paths: &[PathData]) -> Result<
 
 /// Writes a COMMIT-RESPONSE.
 pub fn write_response(to: &mut TlvWriter, code: Code) -> Result<(), WriteFault>
-    ensures { Pushed result to.old to.new (wrapped 13 (result_written code)) }
+    ensures { Pushed result to.old to.new (wrapped types.commit_response (result_written code)) }
 {
-    let begun = to.begin(13)?;
+    let begun = to.begin(COMMIT_RESPONSE)?;
     write_outcome(to, code)?;
     to.end(begun)
 }
@@ -186,8 +162,8 @@ fn write_oper(to: &mut TlvWriter, oper: &Oper) -> Result<(), WriteFault>
 {
     match oper {
         Oper::Paths(kind, paths) => write_operation(to, kind.number(), paths.as_slice()),
-        Oper::Commit => write_leaf(to, 12, &[]),
-        Oper::Trcomp => write_leaf(to, 14, &[]),
+        Oper::Commit => write_leaf(to, COMMIT, &[]),
+        Oper::Trcomp => write_leaf(to, TRCOMP, &[]),
         Oper::CommitResponse(code) => write_response(to, *code),
     }
 }
@@ -205,8 +181,8 @@ fn write_select(to: &mut TlvWriter, select: &Select) -> Result<(), WriteFault>
     ensures { Pushed result to.old to.new (select_written select.now) }
 {
     let begun = to.begin(SELECT)?;
-    put_u32(to, select.class)?;
-    put_u32(to, select.instance)?;
+    to.put_u32(select.class)?;
+    to.put_u32(select.instance)?;
     write_opers(to, select.opers.as_slice())?;
     to.end(begun)
 }

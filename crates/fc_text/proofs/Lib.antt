@@ -24,7 +24,6 @@ pub mod MessagesMade
 pub mod Misfits
 pub mod Octets
 pub mod OneMisfit
-pub mod Pairs
 pub mod PlainWords
 pub mod QuickReads
 pub mod ReadFront

@@ -1,42 +1,7 @@
--- The digits of eight bytes, one by one.
-use Rattle.std.proofs.Common.{◌≡◌, ◌/◌, ◌%◌, ◌++◌, ℕ, List, [], ◌∷◌, length, slice_index, refl, arith, sym, ap, ◌∙◌, append_assoc, ◌+◌, ◌<◌, drop, drop-cons}
-use Rattle.std.proofs.lemmas.Grind.{flat_map-append}
+-- The lines of values of four and of eight bytes, one character by one.
+use Rattle.std.proofs.Common.{◌≡◌, ◌/◌, ◌%◌, ◌++◌, ℕ, List, [], ◌∷◌, length, slice_index, refl, arith, ◌∙◌, append_assoc}
 use Rattle.fc_base.specs.Hex.{hex, hex_digit}
-use Rattle.fc_text.specs.Text.{hex_text, full_text}
-
-pub hex_text_8 : (xs : List ℕ) → length xs ≡ 8 → hex_text xs ≡ hex_digit (slice_index xs 0 / 16 % 16) ∷ hex_digit (slice_index xs 0 % 16) ∷ hex_digit (slice_index xs 1 / 16 % 16) ∷ hex_digit (slice_index xs 1 % 16) ∷ hex_digit (slice_index xs 2 / 16 % 16) ∷ hex_digit (slice_index xs 2 % 16) ∷ hex_digit (slice_index xs 3 / 16 % 16) ∷ hex_digit (slice_index xs 3 % 16) ∷ hex_digit (slice_index xs 4 / 16 % 16) ∷ hex_digit (slice_index xs 4 % 16) ∷ hex_digit (slice_index xs 5 / 16 % 16) ∷ hex_digit (slice_index xs 5 % 16) ∷ hex_digit (slice_index xs 6 / 16 % 16) ∷ hex_digit (slice_index xs 6 % 16) ∷ hex_digit (slice_index xs 7 / 16 % 16) ∷ hex_digit (slice_index xs 7 % 16) ∷ []
-unfolding hex
-hex_text_8 (x0 ∷ x1 ∷ x2 ∷ x3 ∷ x4 ∷ x5 ∷ x6 ∷ x7 ∷ []) e = refl
-hex_text_8 [] e = absurd (omega arith)
-hex_text_8 (x0 ∷ []) e = absurd (omega arith)
-hex_text_8 (x0 ∷ x1 ∷ []) e = absurd (omega arith)
-hex_text_8 (x0 ∷ x1 ∷ x2 ∷ []) e = absurd (omega arith)
-hex_text_8 (x0 ∷ x1 ∷ x2 ∷ x3 ∷ []) e = absurd (omega arith)
-hex_text_8 (x0 ∷ x1 ∷ x2 ∷ x3 ∷ x4 ∷ []) e = absurd (omega arith)
-hex_text_8 (x0 ∷ x1 ∷ x2 ∷ x3 ∷ x4 ∷ x5 ∷ []) e = absurd (omega arith)
-hex_text_8 (x0 ∷ x1 ∷ x2 ∷ x3 ∷ x4 ∷ x5 ∷ x6 ∷ []) e = absurd (omega arith)
-hex_text_8 (x0 ∷ x1 ∷ x2 ∷ x3 ∷ x4 ∷ x5 ∷ x6 ∷ x7 ∷ x8 ∷ xs) e = absurd (omega arith)
-
-pub hex_text_4 : (xs : List ℕ) → length xs ≡ 4 → hex_text xs ≡ hex_digit (slice_index xs 0 / 16 % 16) ∷ hex_digit (slice_index xs 0 % 16) ∷ hex_digit (slice_index xs 1 / 16 % 16) ∷ hex_digit (slice_index xs 1 % 16) ∷ hex_digit (slice_index xs 2 / 16 % 16) ∷ hex_digit (slice_index xs 2 % 16) ∷ hex_digit (slice_index xs 3 / 16 % 16) ∷ hex_digit (slice_index xs 3 % 16) ∷ []
-unfolding hex
-hex_text_4 (x0 ∷ x1 ∷ x2 ∷ x3 ∷ []) e = refl
-hex_text_4 [] e = absurd (omega arith)
-hex_text_4 (x0 ∷ []) e = absurd (omega arith)
-hex_text_4 (x0 ∷ x1 ∷ []) e = absurd (omega arith)
-hex_text_4 (x0 ∷ x1 ∷ x2 ∷ []) e = absurd (omega arith)
-hex_text_4 (x0 ∷ x1 ∷ x2 ∷ x3 ∷ x4 ∷ xs) e = absurd (omega arith)
-
--- the digits of a front went over to the text
-pub spelled_on : (text front more rest whole : List ℕ) → rest ≡ front ++ more → text ++ hex_text rest ≡ whole → (text ++ hex_text front) ++ hex_text more ≡ whole
-spelled_on text front more rest whole split e = rw append_assoc (ap (λ l. text ++ l) (sym (ap hex_text split ∙ flat_map-append (λ byte. hex 2 byte) front more)) ∙ e)
-
--- the digits of one more byte
-pub byte_on : (text xs whole : List ℕ) (i : ℕ) → i < length xs → text ++ hex_text (drop i xs) ≡ whole
-    → (text ++ (hex_digit (slice_index xs i / 16 % 16) ∷ hex_digit (slice_index xs i % 16) ∷ [])) ++ hex_text (drop (i + 1) xs) ≡ whole
-unfolding hex
-byte_on text xs whole i lt e =
-    let next : drop i xs ≡ slice_index xs i ∷ drop (i + 1) xs = search (arith, drop-cons) in
-    rw append_assoc (ap (λ l. text ++ hex_text l) (sym next) ∙ e)
+use Rattle.fc_text.specs.Text.{full_text}
 
 -- the line of a value of four bytes
 pub full_4 : (xs : List ℕ) → length xs ≡ 4 → full_text 4 xs ≡ 32 ∷ 32 ∷ 32 ∷ 32 ∷ 32 ∷ 32 ∷ 32 ∷ 32 ∷ 102 ∷ 117 ∷ 108 ∷ 108 ∷ 32 ∷ hex_digit (slice_index xs 0 / 16 % 16) ∷ hex_digit (slice_index xs 0 % 16) ∷ hex_digit (slice_index xs 1 / 16 % 16) ∷ hex_digit (slice_index xs 1 % 16) ∷ hex_digit (slice_index xs 2 / 16 % 16) ∷ hex_digit (slice_index xs 2 % 16) ∷ hex_digit (slice_index xs 3 / 16 % 16) ∷ hex_digit (slice_index xs 3 % 16) ∷ 10 ∷ []

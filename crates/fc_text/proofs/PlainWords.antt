@@ -9,8 +9,8 @@ use Rattle.std.proofs.lemmas.Bool.Decides.{leb_tells}
 use Rattle.std.proofs.lemmas.Fmt.{decimal_is_IsNumeral}
 use Rattle.std.proofs.lemmas.List.{length-map}
 use Rattle.std.proofs.lemmas.List.Folds.{list_all-append}
-use Rattle.fc_base.specs.Hex.{hex}
-use Rattle.fc_text.specs.Text.{bytes_text, hex_text}
+use Rattle.fc_base.specs.Hex.{hex, hex_text}
+use Rattle.fc_text.specs.Text.{bytes_text}
 use Rattle.fc_text.specs.TextGrammar.{Word, Line, name, number, digits, octets, flags, SpellsDigits, SpellsWord, SpellsLine, AreEach}
 use Rattle.fc_text.proofs.SpelledWords.{are_hexadecimal, hex_digits, length-hex}
 use Rattle.fc_text.proofs.SplitLines.{is_plain, IsWord, IsLine, line_is}

@@ -7,7 +7,7 @@ use Rattle.std.proofs.lemmas.Bool.{ne_eqb}
 use Rattle.std.proofs.lemmas.Bool.Decides.{leb_tells}
 use Rattle.std.proofs.lemmas.Grind.{flat_map-append}
 use Rattle.std.proofs.lemmas.List.{map-append}
-use Rattle.fc_base.specs.Hex.{hex, hex_digit}
+use Rattle.fc_base.specs.Hex.{hex, hex_digit, hex_text}
 use Rattle.fc_wire.specs.Flags.{FlagValues, FlagsFit}
 use Rattle.fc_wire.specs.Header.{word_of}
 use Rattle.fc_wire.specs.declared.ilvs.Ilv.{Ilv}
@@ -27,7 +27,7 @@ use Rattle.fc_msg.specs.Reading.{flags_in}
 use Rattle.fc_msg.specs.declared.message.Message.{Message}
 use Rattle.fc_msg.specs.declared.message.MsgBody.{MsgBody}
 use Rattle.fc_msg.specs.declared.message.MsgBody.TheVariants.{Setup, SetupResponse, Teardown, Config, ConfigResponse, Query, QueryResponse, Event, Heartbeat}
-use Rattle.fc_text.specs.Text.{AtLevel, body_at, path_line, path_text, body_text, id_text, key_text, full_text, ilv_text, sparse_text, code_text, oper_line, oper_text, select_line, select_text, selects_text, number_text, content_text, fields_text, head_text, message_text, bytes_text, hex_text, body_name, kind_name, indent}
+use Rattle.fc_text.specs.Text.{AtLevel, body_at, path_line, path_text, body_text, id_text, key_text, full_text, ilv_text, sparse_text, code_text, oper_line, oper_text, select_line, select_text, selects_text, number_text, content_text, fields_text, head_text, message_text, bytes_text, body_name, kind_name, indent}
 use Rattle.fc_text.specs.TextGrammar.{Word, Line, line, name, number, digits, octets, flags, key_words, step_words, ilv_line, code_line, name_line, number_line, head_line, path_lines, body_lines, oper_lines, select_lines, content_lines, message_lines, WordFits, LineFits, LinesFit, SpellsDigits, SpellsWord, SpellsLine, SpellsLines, AreEach, behind_space, parted, ended}
 use Rattle.fc_text.proofs.Flattening.{nested_text}
 use Rattle.fc_text.proofs.ReadPaths.{layer_lines, body_is, path_lines_are, path_head}

@@ -9,10 +9,10 @@ use Rattle.std.proofs.lemmas.Fmt.{decimal-digits_value}
 use Rattle.std.proofs.lemmas.Int.Digits.{digits_value-lt}
 use Rattle.std.proofs.lemmas.List.{take-append-drop}
 use Rattle.std.proofs.lemmas.Slice.Eq.{bytes_eq-Decides}
-use Rattle.fc_base.specs.Hex.{hex, hex_digit}
+use Rattle.fc_base.specs.Hex.{hex, hex_digit, hex_text}
 use Rattle.fc_wire.specs.Bytes.{AreBytes}
 use Rattle.fc_text.specs.LineWords.{this_word, behind_label, labelled_digits}
-use Rattle.fc_text.specs.Text.{bytes_text, hex_text}
+use Rattle.fc_text.specs.Text.{bytes_text}
 use Rattle.fc_text.specs.TextGrammar.{SpellsDigits}
 use Rattle.fc_text.specs.WordValues.{given, digit_of, hexadecimal, digits_of, decimal_digit as digit_ten, below, decimals, decimal_of, pairs_of, octets_of}
 use Rattle.fc_text.proofs.SpelledWords.{are_hexadecimal, hex_suc, hex_zero, digit_below, digit_in_upper_case}

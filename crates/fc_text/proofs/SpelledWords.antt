@@ -12,10 +12,10 @@ use Rattle.std.proofs.lemmas.Int.Digits.{digits_value_push}
 use Rattle.std.proofs.lemmas.List.{length-map, take_at, drop_at}
 use Rattle.std.proofs.lemmas.List.Folds.{list_all-append}
 use Rattle.std.proofs.lemmas.Slice.Eq.{bytes_eq-Decides}
-use Rattle.fc_base.specs.Hex.{hex, hex_digit}
+use Rattle.fc_base.specs.Hex.{hex, hex_digit, hex_text}
 use Rattle.fc_wire.specs.Bytes.{AreBytes}
 use Rattle.fc_text.specs.LineWords.{labelled_digits}
-use Rattle.fc_text.specs.Text.{bytes_text, hex_text}
+use Rattle.fc_text.specs.Text.{bytes_text}
 use Rattle.fc_text.specs.TextGrammar.{SpellsDigits}
 use Rattle.fc_text.specs.WordValues.{given, digit_of, hexadecimal, digits_of, decimal_digit as digit_ten, below, decimals, decimal_of, pairs_of, octets_of}
 

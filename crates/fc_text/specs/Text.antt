@@ -2,7 +2,7 @@
 -- level is indented by two spaces more.
 use Rattle.std.specs.Prelude.{ℕ, zero, suc, ◌+◌, List, [], ◌∷◌, ◌++◌, codes, decimal, Option, Some, None}
 use Rattle.std.specs.List.{flat_map}
-use Rattle.fc_base.specs.Hex.{hex}
+use Rattle.fc_base.specs.Hex.{hex, hex_text}
 use Rattle.fc_wire.specs.Header.{word_of}
 use Rattle.fc_wire.specs.declared.ilvs.Ilv.{Ilv}
 use Rattle.fc_path.specs.declared.oper.OperKind.{OperKind}
@@ -46,9 +46,6 @@ kind_name kinds.GetPropResponse = codes "GET-PROP-RESPONSE"
 kind_name kinds.Report = codes "REPORT"
 
 -- the two digits of each byte, or a hyphen for none
-abbrev pub hex_text : List ℕ → List ℕ
-hex_text bytes = flat_map (λ byte. hex 2 byte) bytes
-
 abbrev pub bytes_text : List ℕ → List ℕ
 bytes_text [] = codes "-"
 bytes_text (byte ∷ bytes) = hex_text (byte ∷ bytes)

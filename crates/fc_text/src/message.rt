@@ -4,11 +4,11 @@ ghost use Rattle.std.specs.List.{flat_map};
 ghost use Rattle.fc_text.specs.Text.{body_text, code_text, content_text, fields_text, full_text, head_text, id_text, ilv_text, indent, key_text, message_text, number_text, oper_line, oper_text, path_line, path_text, response_text, select_line, select_text, selects_text, sparse_text};
 
 use crate::decimal::push_decimal;
-use crate::hexes::{
-    digits_of, digits_of_four, eight_digits, push_word, sixteen_digits, two_digits,
-};
+use crate::hexes::push_word;
 use crate::names::{message_name, operation_name};
-use fc_base::{Code, Memory};
+use fc_base::{
+    Code, Memory, digits_of_eight, digits_of_four, eight_digits, sixteen_digits, two_digits,
+};
 use fc_msg::{Message, MsgBody};
 use fc_path::{Body, Key, Oper, PathData, Select};
 use fc_wire::Ilv;
@@ -355,7 +355,7 @@ fn four_bytes(value: &[u8; 4]) -> [u8; 22]
 fn eight_bytes(value: &[u8; 8]) -> [u8; 30]
     ensures { result ≡ full_text 4 value.now }
 {
-    let d = digits_of(value);
+    let d = digits_of_eight(value);
     [
         b' ', b' ', b' ', b' ', b' ', b' ', b' ', b' ', b'f', b'u', b'l', b'l', b' ', d[0], d[1],
         d[2], d[3], d[4], d[5], d[6], d[7], d[8], d[9], d[10], d[11], d[12], d[13], d[14], d[15],

@@ -2,6 +2,7 @@
 ghost use Rattle.std.specs.Prelude.{◌≡◌, ◌<◌, ◌++◌, ◌∷◌, [], List, ℕ, length, codes, true, Ok, OnOk, IfSome};
 ghost use Rattle.std.specs.List.{flat_map};
 ghost use Rattle.fc_wire.specs.Bytes.{u16_bytes, u32_bytes};
+ghost use Rattle.fc_wire.specs.Types as types;
 ghost use Rattle.fc_wire.specs.Writing.{writing, head_bytes, tlv_bytes};
 ghost use Rattle.fc_path.specs.Canon.{Pushed, plain, wrapped, result_written, body_written, path_written, oper_written, select_written};
 ghost use Rattle.fc_path.specs.Kinds.{number_of, holds_selects};
@@ -13,11 +14,8 @@ ghost use Rattle.fc_text.specs.TextGrammar.{line, name, octets, code_line, body_
 
 use crate::quick_lines::Ahead;
 use fc_base::{Code, Memory, WriteFault};
-use fc_path::{
-    FULL_DATA, OperKind, Operation, PATH_DATA, SELECT, put_ids, put_u32, write_leaf, write_outcome,
-    write_response,
-};
-use fc_wire::{Begun, TlvWriter};
+use fc_path::{OperKind, Operation, put_ids, write_leaf, write_outcome, write_response};
+use fc_wire::{Begun, COMMIT, FULL_DATA, PATH_DATA, SELECT, TRCOMP, TlvWriter};
 use std::alloc::Global;
 
 /// What the short way from text to bytes uses again for each message.
@@ -71,8 +69,8 @@ fn write_steps(to: &mut TlvWriter, ids: &[u32]) -> Result<(), WriteFault>
 fn write_names(to: &mut TlvWriter, class: u32, instance: u32) -> Result<(), Memory>
     ensures { OnOk result (to.new ≡ writing (to.old.text ++ (u32_bytes class ++ u32_bytes instance)) to.old.places) }
 {
-    put_u32(to, class)?;
-    put_u32(to, instance)
+    to.put_u32(class)?;
+    to.put_u32(instance)
 }
 
 impl Shortcut {
@@ -90,7 +88,7 @@ impl Shortcut {
 
     // A whole value.
     fn full(&mut self, ahead: &mut Ahead) -> Option<()>
-        ensures { IfSome result (λ _. (value : List ℕ) × InFront (line 4 (name (codes "full") ∷ octets value ∷ []) ∷ []) ahead.old ahead.new × Pushed (Ok tt) self.old.writer self.new.writer (wrapped 274 (plain value))) }
+        ensures { IfSome result (λ _. (value : List ℕ) × InFront (line 4 (name (codes "full") ∷ octets value ∷ []) ∷ []) ahead.old ahead.new × Pushed (Ok tt) self.old.writer self.new.writer (wrapped types.full_data (plain value))) }
     {
         ahead.full_line(&mut self.value)?;
         write_leaf(&mut self.writer, FULL_DATA, self.value.as_slice()).ok()
@@ -153,7 +151,7 @@ impl Shortcut {
 
     // A COMMIT-RESPONSE, behind its line.
     fn response(&mut self, ahead: &mut Ahead) -> Option<()>
-        ensures { IfSome result (λ _. (code : ℕ) × InFront (code_line 3 code ∷ []) ahead.old ahead.new × Pushed (Ok tt) self.old.writer self.new.writer (wrapped 13 (result_written code))) }
+        ensures { IfSome result (λ _. (code : ℕ) × InFront (code_line 3 code ∷ []) ahead.old ahead.new × Pushed (Ok tt) self.old.writer self.new.writer (wrapped types.commit_response (result_written code))) }
     {
         let code = ahead.code_line(b"      ")?;
         write_response(&mut self.writer, Code(code)).ok()
@@ -166,8 +164,8 @@ impl Shortcut {
         let operation = ahead.oper_line(message)?;
         match operation {
             Operation::Paths(kind) => self.places(kind, ahead),
-            Operation::Commit => write_empty(&mut self.writer, 12),
-            Operation::Trcomp => write_empty(&mut self.writer, 14),
+            Operation::Commit => write_empty(&mut self.writer, COMMIT),
+            Operation::Trcomp => write_empty(&mut self.writer, TRCOMP),
             Operation::CommitResponse => self.response(ahead),
         }
     }

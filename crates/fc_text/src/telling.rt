@@ -11,10 +11,10 @@ use crate::message::{push_line, push_response, push_select_line};
 use crate::names::operation_name;
 use crate::tell_path::tell_path_at;
 use fc_path::{
-    OperKind, Operation, PATH_DATA, PathFault, SELECT, are_bytes, holds_selects,
-    is_known_in_select, misplaced, operation_for, read_only_outcome,
+    OperKind, Operation, PathFault, are_bytes, holds_selects, is_known_in_select, misplaced,
+    operation_for, read_only_outcome,
 };
-use fc_wire::{Tlv, Tlvs, WireFault, read_u32};
+use fc_wire::{PATH_DATA, SELECT, Tlv, Tlvs, WireFault, read_u32};
 
 // The PATH-DATA of an operation.
 fn tell_path(into: &mut Vec<u8>, kind: OperKind, tlv: &Tlv) -> Result<(), PathFault>

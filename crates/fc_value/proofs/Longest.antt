@@ -14,7 +14,7 @@ use Rattle.fc_types.specs.declared.ty.Ty.TheOpen.{Ty-F}
 use Rattle.fc_types.specs.declared.ty.Ty.TheViews.{out-Ty}
 use Rattle.fc_types.proofs.Inside.{inside_law, inside_layer}
 use Rattle.fc_wire.specs.Bytes.{u32_bytes}
-use Rattle.fc_value.specs.Writing.{each_bytes, entry_bytes, group_layer, table_layer, bare_layer, truth_layer, number_layer, full_data, inside_bytes}
+use Rattle.fc_value.specs.Writing.{each_bytes, entry_bytes, group_layer, table_layer, bare_layer, truth_layer, number_layer, full_data_tlv, inside_bytes}
 use Rattle.fc_value.specs.Keys.{has_no_keys, own_no_keys}
 use Rattle.fc_value.specs.Fits.{EachFits, EntryFits, FitsLayer, FitsIn, Fits}
 use Rattle.fc_value.specs.FullForm.{AreRising}
@@ -110,13 +110,13 @@ module _ (depth : ℕ) where
     layer_reached (Ty-F.String n) deep own bare ranged all = (
       value.Text (replicate n 0),
       (replicate n 0, refl, IsUtf8-from_ascii (replicate n 0) (low_bytes n), omega (arith, length-replicate {A = ℕ} n 0)),
-      ap (λ k. length (full_data (bare_layer k))) (truth_out (value.Text (replicate n 0)) (Value-F.Text (replicate n 0)) (sym (value.rolls-Text (replicate n 0))))
+      ap (λ k. length (full_data_tlv (bare_layer k))) (truth_out (value.Text (replicate n 0)) (Value-F.Text (replicate n 0)) (sym (value.rolls-Text (replicate n 0))))
           ∙ full_data_long (replicate n 0) ∙ ap (λ k. padded (4 + k)) (length-replicate {A = ℕ} n 0),
     )
     layer_reached (Ty-F.Octets n) deep own bare ranged all = (
       value.Raw (replicate n 0),
       (replicate n 0, refl, zeros_bytes n, omega (arith, length-replicate {A = ℕ} n 0)),
-      ap (λ k. length (full_data (bare_layer k))) (truth_out (value.Raw (replicate n 0)) (Value-F.Raw (replicate n 0)) (sym (value.rolls-Raw (replicate n 0))))
+      ap (λ k. length (full_data_tlv (bare_layer k))) (truth_out (value.Raw (replicate n 0)) (Value-F.Raw (replicate n 0)) (sym (value.rolls-Raw (replicate n 0))))
           ∙ full_data_long (replicate n 0) ∙ ap (λ k. padded (4 + k)) (length-replicate {A = ℕ} n 0),
     )
     layer_reached (Ty-F.Bytes n) deep own bare ranged all = (
@@ -136,7 +136,7 @@ module _ (depth : ℕ) where
         let few : 0 + limit ≤ 65536 = omega (arith, upto 65536 limit own) in (
           value.Table es,
           (es, refl, record { rising = row_rises limit 0 c.0; few = omega (arith, row_long limit 0 c.0); keyed = refl }, row_fits limit 0 entry c.0 c.1 few),
-          ap (λ k. length (full_data (table_layer (inside_bytes entry) k))) (truth_out (value.Table es) (Value-F.Table es) (sym (value.rolls-Table es)))
+          ap (λ k. length (full_data_tlv (table_layer (inside_bytes entry) k))) (truth_out (value.Table es) (Value-F.Table es) (sym (value.rolls-Table es)))
               ∙ full_data_long (flat_map (entry_bytes (inside_bytes entry)) es) ∙ ap (λ k. padded (4 + k)) (row_written limit 0 entry c.0 c.2),
         )
     layer_reached (Ty-F.Array entry limit (key ∷ keys)) deep own bare ranged all = absurd (cc)

@@ -18,7 +18,7 @@ use Rattle.fc_wire.specs.Bytes.{u32_bytes}
 use Rattle.fc_wire.specs.Tlvs.{IsTlv}
 use Rattle.fc_wire.specs.Writing.{padding}
 use Rattle.fc_value.specs.Numbers.{is_width, number_of, number_bytes, digits, bits_of}
-use Rattle.fc_value.specs.Writing.{Writer, truth_layer, number_layer, bare_layer, bare_bytes, each_bytes, group_layer, entry_bytes, table_layer, full_data, inside_step, field_step, inside_bytes, inside_bytes_at, full_layer, full_bytes}
+use Rattle.fc_value.specs.Writing.{Writer, truth_layer, number_layer, bare_layer, bare_bytes, each_bytes, group_layer, entry_bytes, table_layer, full_data_tlv, inside_step, field_step, inside_bytes, inside_bytes_at, full_layer, full_bytes}
 use Rattle.fc_value.specs.Fits.{EachFits, EntryFits, FitsLayer, FitsIn, Fits}
 use Rattle.fc_value.specs.FullForm.{IsTruth, IsNumber, IsText, IsOctets, IsFixed, InRange, EachField, IsGroup, EachEntry, AreJoined, IsTable, InFullData, InsideLayer, IsInside, FullLayer, IsFull}
 use Rattle.fc_value.specs.declared.value.Value.{Value, out-Value, roll-Value}
@@ -32,11 +32,11 @@ use Rattle.fc_value.proofs.Numbers.{Ends, digits_long, again_1, again_2, again_4
 abbrev pub write_layer : Ty-F Ty Field → Value → List ℕ
 write_layer Ty-F.Bool v = truth_layer (out-Value v)
 write_layer (Ty-F.Number w s min max) v = number_layer w (out-Value v)
-write_layer (Ty-F.String n) v = full_data (bare_bytes v)
-write_layer (Ty-F.Octets n) v = full_data (bare_bytes v)
+write_layer (Ty-F.String n) v = full_data_tlv (bare_bytes v)
+write_layer (Ty-F.Octets n) v = full_data_tlv (bare_bytes v)
 write_layer (Ty-F.Bytes n) v = bare_bytes v
 write_layer (Ty-F.Struct fields) v = group_layer (map (λ f. inside_bytes (field_ty f)) fields) (out-Value v)
-write_layer (Ty-F.Array entry limit keys) v = full_data (table_layer (inside_bytes entry) (out-Value v))
+write_layer (Ty-F.Array entry limit keys) v = full_data_tlv (table_layer (inside_bytes entry) (out-Value v))
 
 field_rolled : (l : Field-F Ty Field) → inside_bytes_at (roll-Field l) ≡ inside_bytes l.ty
 unfolding inside_bytes inside_bytes_at
@@ -93,8 +93,8 @@ padding_long : (n : ℕ) → length (padding n) ≡ (4 - n % 4) % 4
 unfolding padding
 padding_long n = length-replicate ((4 - n % 4) % 4) 0
 
-full_data_is : (body : List ℕ) → length body + 4 < 2 ^ 16 → IsTlv 274 body (body ++ padding (length body)) (full_data body)
-unfolding full_data
+full_data_is : (body : List ℕ) → length body + 4 < 2 ^ 16 → IsTlv 274 body (body ++ padding (length body)) (full_data_tlv body)
+unfolding full_data_tlv
 full_data_is body h = record {
   padding = padding (length body);
   few = omega (arith, padding_long (length body));
@@ -107,8 +107,8 @@ full_data_is body h = record {
     high : (n : ℕ) → n < 2 ^ 16 → n / 256 % 256 ≡ n / 2 ^ 8
     high n k = omega (arith, k)
 
-pub full_data_long : (body : List ℕ) → length (full_data body) ≡ padded (4 + length body)
-unfolding full_data
+pub full_data_long : (body : List ℕ) → length (full_data_tlv body) ≡ padded (4 + length body)
+unfolding full_data_tlv
 full_data_long body = omega (arith, length-append body (padding (length body)), padding_long (length body))
 
 -- each level of a value
@@ -185,7 +185,7 @@ at_most : (m n : ℕ) → nat_le m n ≡ true → m ≤ n
 at_most m n h = grind arith
 
 text_written : (n : ℕ) (v : Value) (Is : Value → List ℕ → Type 0) (body : List ℕ) → n ≤ 65531 → length body ≤ n → Is v body
-    → InFullData Is v (full_data body) × (length (full_data body) ≤ padded (4 + n))
+    → InFullData Is v (full_data_tlv body) × (length (full_data_tlv body) ≤ padded (4 + n))
 text_written n v Is body top few is =
     ((body, body ++ padding (length body), full_data_is body (omega (arith, top, few)), is), omega (arith, full_data_long body, few))
 
@@ -247,10 +247,10 @@ module _ (depth : ℕ) (canon : (ty : Ty) (v : Value) → IsSoundInside ty → F
       subst (λ l. IsNumber w g min max v (number_layer w l) × (length (number_layer w l) ≤ w)) (sym (truth_out v (Value-F.Number h.0) (h.1 ∙ sym (value.rolls-Number h.0))))
       (c.0, omega (arith, c.1))
   layer_canon (Ty-F.String n) v s f h =
-      subst (λ l. InFullData (IsText n) v (full_data (bare_layer l)) × (length (full_data (bare_layer l)) ≤ padded (4 + n))) (sym (truth_out v (Value-F.Text h.0) (h.1 ∙ sym (value.rolls-Text h.0))))
+      subst (λ l. InFullData (IsText n) v (full_data_tlv (bare_layer l)) × (length (full_data_tlv (bare_layer l)) ≤ padded (4 + n))) (sym (truth_out v (Value-F.Text h.0) (h.1 ∙ sym (value.rolls-Text h.0))))
       (text_written n v (IsText n) h.0 (omega (arith, upto 32768 n s)) h.3 (h.1, h.2, h.3))
   layer_canon (Ty-F.Octets n) v s f h =
-      subst (λ l. InFullData (IsOctets n) v (full_data (bare_layer l)) × (length (full_data (bare_layer l)) ≤ padded (4 + n))) (sym (truth_out v (Value-F.Raw h.0) (h.1 ∙ sym (value.rolls-Raw h.0))))
+      subst (λ l. InFullData (IsOctets n) v (full_data_tlv (bare_layer l)) × (length (full_data_tlv (bare_layer l)) ≤ padded (4 + n))) (sym (truth_out v (Value-F.Raw h.0) (h.1 ∙ sym (value.rolls-Raw h.0))))
       (text_written n v (IsOctets n) h.0 (omega (arith, upto 32768 n s)) h.3 (h.1, h.3))
   layer_canon (Ty-F.Bytes n) v s f h =
       subst (λ l. IsFixed n v (bare_layer l) × (length (bare_layer l) ≤ n)) (sym (truth_out v (Value-F.Raw h.0) (h.1 ∙ sym (value.rolls-Raw h.0))))

@@ -10,6 +10,7 @@ use Rattle.fc_types.specs.declared.ty.Ty.TheOpen.{Ty-F}
 use Rattle.fc_types.specs.declared.ty.Ty.TheViews.{out-Ty}
 use Rattle.fc_wire.specs.Bytes.{u32_bytes}
 use Rattle.fc_wire.specs.Tlvs.{IsTlv}
+use Rattle.fc_wire.specs.Types as types
 use Rattle.fc_value.specs.Keys.{keys_differ}
 use Rattle.fc_value.specs.Numbers.{is_width, number_of}
 use Rattle.fc_value.specs.declared.value.Value.{Value}
@@ -91,7 +92,7 @@ IsTable In entry limit keys v bytes =
 
 -- a FULLDATA that holds the value
 abbrev pub InFullData : (Value → List ℕ → Type 0) → Value → List ℕ → Type 0
-InFullData Is v bytes = (body : List ℕ) × (padded : List ℕ) × IsTlv 274 body padded bytes × Is v body
+InFullData Is v bytes = (body : List ℕ) × (padded : List ℕ) × IsTlv types.full_data body padded bytes × Is v body
 
 -- a value that stands in a struct or an entry
 abbrev pub InsideLayer : Forms → Ty-F Ty Field → Value → List ℕ → Type 0

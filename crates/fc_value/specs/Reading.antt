@@ -13,6 +13,7 @@ use Rattle.fc_types.specs.declared.ty.Ty.TheOpen.{Ty-F, Field-F}
 use Rattle.fc_types.specs.declared.ty.Ty.TheViews.{out-Ty}
 use Rattle.fc_types.specs.declared.ty.Ty.TheFolds.{para-Ty, para-Field}
 use Rattle.fc_wire.specs.Bytes.{u16_at, u32_at}
+use Rattle.fc_wire.specs.Types as types
 use Rattle.fc_value.specs.Outcomes.{◌>>=◌, invalid_tlv, invalid_parameters, out_of_range}
 use Rattle.fc_value.specs.Numbers.{is_width, number_of}
 use Rattle.fc_value.specs.Keys.{keys_differ}
@@ -56,7 +57,7 @@ octets_of limit bytes = if nat_lt limit (length bytes) then Err out_of_range els
 unfoldable pub cut : List ℕ → Result (List ℕ × List ℕ) ℕ
 cut bytes =
     if nat_lt (length bytes) 4 then Err invalid_tlv
-    else (if not (u16_at bytes 0 == 274) || nat_lt (u16_at bytes 2) 4 then Err invalid_tlv
+    else (if not (u16_at bytes 0 == types.full_data) || nat_lt (u16_at bytes 2) 4 then Err invalid_tlv
     else (if nat_lt (length bytes) (u16_at bytes 2) then Err invalid_tlv
     else Ok (drop 4 (take (u16_at bytes 2) bytes), drop (u16_at bytes 2) bytes)))
 

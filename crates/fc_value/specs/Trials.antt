@@ -12,6 +12,7 @@ use Rattle.fc_types.specs.declared.ty.Ty.TheOpen.{Ty-F, Field-F}
 use Rattle.fc_types.specs.declared.ty.Ty.TheViews.{out-Ty}
 use Rattle.fc_types.specs.declared.ty.Ty.TheFolds.{para-Ty, para-Field}
 use Rattle.fc_wire.specs.Bytes.{u16_at, u32_at}
+use Rattle.fc_wire.specs.Types as types
 use Rattle.fc_value.specs.Keys.{keys_differ}
 use Rattle.fc_value.specs.Numbers.{is_width, number_of}
 use Rattle.fc_value.specs.Outcomes.{invalid_tlv, invalid_parameters, out_of_range}
@@ -84,7 +85,7 @@ padding_of body = (4 - length body % 4) % 4
 -- a value in a FULLDATA of its own: its header, the value, and its padding
 abbrev pub held_walk : (List ℕ → List Trial) → Walk
 held_walk inner bytes = (
-  fails (nat_lt (length bytes) 4) invalid_tlv ∷ fails (not (u16_at bytes 0 == 274) || nat_lt (u16_at bytes 2) 4) invalid_tlv
+  fails (nat_lt (length bytes) 4) invalid_tlv ∷ fails (not (u16_at bytes 0 == types.full_data) || nat_lt (u16_at bytes 2) 4) invalid_tlv
       ∷ fails (nat_lt (length bytes) (u16_at bytes 2)) invalid_tlv
       ∷ (inner (held_in bytes) ++ fails (nat_lt (length (behind bytes)) (padding_of (held_in bytes))) invalid_tlv ∷ []),
   drop (padding_of (held_in bytes)) (behind bytes),

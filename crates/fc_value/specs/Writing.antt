@@ -54,17 +54,17 @@ table_layer w (Value-F.Table es) = flat_map (entry_bytes w) es
 table_layer w _ = []
 
 -- a FULLDATA with its padding, whose value is at most 65,531 bytes long
-unfoldable pub full_data : List ℕ → List ℕ
-full_data bytes = 1 ∷ 18 ∷ (length bytes + 4) / 256 % 256 ∷ (length bytes + 4) % 256 ∷ bytes ++ padding (length bytes)
+unfoldable pub full_data_tlv : List ℕ → List ℕ
+full_data_tlv bytes = 1 ∷ 18 ∷ (length bytes + 4) / 256 % 256 ∷ (length bytes + 4) % 256 ∷ bytes ++ padding (length bytes)
 
 abbrev pub inside_step : Ty-F Writer Writer → Writer
 inside_step Ty-F.Bool = λ v. truth_layer (out-Value v)
 inside_step (Ty-F.Number width signed min max) = λ v. number_layer width (out-Value v)
-inside_step (Ty-F.String length) = λ v. full_data (bare_bytes v)
-inside_step (Ty-F.Octets length) = λ v. full_data (bare_bytes v)
+inside_step (Ty-F.String length) = λ v. full_data_tlv (bare_bytes v)
+inside_step (Ty-F.Octets length) = λ v. full_data_tlv (bare_bytes v)
 inside_step (Ty-F.Bytes length) = bare_bytes
 inside_step (Ty-F.Struct ws) = λ v. group_layer ws (out-Value v)
-inside_step (Ty-F.Array w entries keys) = λ v. full_data (table_layer w (out-Value v))
+inside_step (Ty-F.Array w entries keys) = λ v. full_data_tlv (table_layer w (out-Value v))
 
 abbrev pub field_step : Field-F Writer Writer → Writer
 field_step f = f.ty

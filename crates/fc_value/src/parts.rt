@@ -3,15 +3,12 @@ ghost use Rattle.std.specs.Prelude.{◌≡◌, ◌++◌, ◌+◌, ◌-◌, ◌%�
 ghost use Rattle.fc_wire.specs.Bytes.{u32_at};
 ghost use Rattle.fc_value.specs.Outcomes.{Gives};
 ghost use Rattle.fc_value.specs.Reading.{taken, truth_in, fixed_in, text_of, octets_of, cut, unpadded, closed, held};
-ghost use Rattle.fc_wire.specs.Writing.{padding};
-ghost use Rattle.fc_value.specs.Writing.{full_data};
+ghost use Rattle.fc_value.specs.Writing.{full_data_tlv};
 
 use crate::Value;
 use fc_base::{Code, Memory, Octets, OpFault, Text};
-use fc_wire::read_u16;
+use fc_wire::{FULL_DATA, push_padding, read_u16};
 use std::alloc::Global;
-
-const FULL_DATA: u16 = 0x0112;
 
 /// So many bytes at the front, and what stands behind them.
 pub fn take(bytes: &[u8], count: usize) -> Result<(&[u8], &[u8]), OpFault>
@@ -131,23 +128,13 @@ pub fn read_held_octets(alloc: Global, bytes: &[u8], limit: u32) -> Result<(Valu
     close(value, behind, body.len())
 }
 
-// Appends the zeros that a length lacks to a multiple of four.
-#[tactic(auto, unfolding(fc_wire::specs::Writing::padding))]
-fn write_padding(size: usize, into: &mut Vec<u8>) -> Result<(), Memory>
-    ensures { OnOk result (into.new.items ≡ into.old.items ++ padding size) }
-{
-    let zeros = [0u8; 3];
-    into.extend_from_slice(&zeros[..(4 - size % 4) % 4])?;
-    Ok(())
-}
-
 /// Appends a FULLDATA with its padding, whose value is at most 65,531 bytes long.
-#[tactic(auto, unfolding(crate::specs::Writing::full_data))]
+#[tactic(auto, unfolding(crate::specs::Writing::full_data_tlv))]
 pub fn write_full_data(value: &[u8], into: &mut Vec<u8>) -> Result<(), Memory>
-    ensures { OnOk result (into.new.items ≡ into.old.items ++ full_data value.now) }
+    ensures { OnOk result (into.new.items ≡ into.old.items ++ full_data_tlv value.now) }
 {
     let size = value.len() + 4;
     into.extend_from_slice(&[1, 18, (size / 256 % 256) as u8, (size % 256) as u8])?;
     into.extend_from_slice(value)?;
-    write_padding(value.len(), into)
+    push_padding(into, value.len())
 }

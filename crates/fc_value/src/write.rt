@@ -1,7 +1,7 @@
 // Writing values.
 ghost use Rattle.std.specs.Prelude.{◌≡◌, ◌++◌, map, OnOk, OnErr};
 ghost use Rattle.std.specs.List.{flat_map};
-ghost use Rattle.fc_value.specs.Writing.{full_bytes, inside_bytes, inside_bytes_at, bare_bytes, full_data, truth_layer, number_layer, group_layer, table_layer, each_bytes, entry_bytes};
+ghost use Rattle.fc_value.specs.Writing.{full_bytes, inside_bytes, inside_bytes_at, bare_bytes, full_data_tlv, truth_layer, number_layer, group_layer, table_layer, each_bytes, entry_bytes};
 ghost use Rattle.fc_wire.specs.Bytes.{u32_bytes};
 ghost use Rattle.fc_value.specs.declared.value.Value.{out-Value};
 
@@ -91,7 +91,7 @@ fn write_bare(value: &Value, into: &mut Vec<u8>) -> Result<(), Memory>
 }
 
 fn write_held(value: &Value, into: &mut Vec<u8>) -> Result<(), Memory>
-    ensures { OnOk result (into.new.items ≡ into.old.items ++ full_data (bare_bytes value.now)) }
+    ensures { OnOk result (into.new.items ≡ into.old.items ++ full_data_tlv (bare_bytes value.now)) }
 {
     write_full_data(bytes_of(value), into)
 }

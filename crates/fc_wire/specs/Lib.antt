@@ -5,4 +5,5 @@ pub mod Header
 pub mod Ilvs
 pub mod Tiling
 pub mod Tlvs
+pub mod Types
 pub mod Writing

@@ -9,6 +9,7 @@ mod laws;
 #[cfg(test)]
 mod tests;
 mod tlvs;
+mod types;
 mod writer;
 
 pub use header::{Flags, Header, WireFault};
@@ -19,4 +20,7 @@ pub use laws::{
     items_cut_the_bytes, tlvs_are_unique, written_items_are_read,
 };
 pub use tlvs::{Tlv, Tlvs};
-pub use writer::{Begun, TlvWriter};
+pub use types::{
+    COMMIT, COMMIT_RESPONSE, FULL_DATA, KEY_INFO, PATH_DATA, RESULT, SELECT, SPARSE_DATA, TRCOMP,
+};
+pub use writer::{Begun, TlvWriter, push_padding};

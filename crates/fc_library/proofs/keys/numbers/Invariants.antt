@@ -1,6 +1,6 @@
 use Rattle.std.proofs.Common.{◌≡◌, ◌++◌, drop, Ok}
 use Rattle.toml.specs.View.{items_view}
-use Rattle.fc_library.specs.Gives.{◌>>=◌}
+use Rattle.fc_base.specs.Answers.{◌>>=◌}
 use Rattle.fc_library.specs.Keys.{numbers_in}
 use Rattle.fc_library.proofs.keys.numbers.Given as goal
 

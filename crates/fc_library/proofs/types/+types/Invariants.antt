@@ -1,7 +1,7 @@
 use Rattle.std.proofs.Common.{◌≡◌, ◌+◌, ◌*◌, ◌++◌, drop, Ok}
 use Rattle.toml.specs.Data.{members_depth, items_depth}
 use Rattle.toml.specs.View.{items_view, table_view}
-use Rattle.fc_library.specs.Gives.{◌>>=◌}
+use Rattle.fc_base.specs.Answers.{◌>>=◌}
 use Rattle.fc_library.specs.Types.{each, field_in, type_of}
 use Rattle.fc_library.proofs.types.+types.Given as goal
 

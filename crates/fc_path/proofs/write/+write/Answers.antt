@@ -9,10 +9,10 @@ use Rattle.fc_path.proofs.write.+write.Goals as goal
 
 pub write_path-returns : goal.write_path-returns
 write_path-returns t c =
-    path_closing c.args.path.now c.args.to.now c.begin.new.self c.put_u16.new.to c.put_u16-2.new.to c.put_ids.new.to c.write_key.new.to c.write_body.new.to c.end.new.self c.in_ok-begun.begun c.end.result c.in_ok-begun.ensures.begun
-    (omega (arith, c.len-count.ensures)) c.in_ok-begun.ensures.ok (c.in_ok-put_u16.ensures ∙ ap (λ n. writing (c.begin.new.self.text ++ u16_bytes n) c.begin.new.self.places) c.flags_of.ensures)
-    (c.in_ok-put_u16-2.ensures ∙ ap (λ n. writing (c.put_u16.new.to.text ++ u16_bytes n) c.put_u16.new.to.places) c.len-count.ensures)
-    (c.in_ok-put_ids.ensures ∙ ap (λ l. writing (c.put_u16-2.new.to.text ++ flat_map u32_bytes l) c.put_u16-2.new.to.places) c.as_slice.ensures) c.in_ok-write_key.ensures c.in_ok-write_body.ensures c.end.ensures.tlv c.end.ensures.long
+    path_closing c.args.path.now c.args.to.now c.begin.new.self c.put_u16.new.self c.put_u16-2.new.self c.put_ids.new.to c.write_key.new.to c.write_body.new.to c.end.new.self c.in_ok-begun.begun c.end.result c.in_ok-begun.ensures.begun
+    (omega (arith, c.len-count.ensures)) c.in_ok-begun.ensures.ok (c.in_ok-put_u16.ensures.ok ∙ ap (λ n. writing (c.begin.new.self.text ++ u16_bytes n) c.begin.new.self.places) c.flags_of.ensures)
+    (c.in_ok-put_u16-2.ensures.ok ∙ ap (λ n. writing (c.put_u16.new.self.text ++ u16_bytes n) c.put_u16.new.self.places) c.len-count.ensures)
+    (c.in_ok-put_ids.ensures ∙ ap (λ l. writing (c.put_u16-2.new.self.text ++ flat_map u32_bytes l) c.put_u16-2.new.self.places) c.as_slice.ensures) c.in_ok-write_key.ensures c.in_ok-write_body.ensures c.end.ensures.tlv c.end.ensures.long
 
 pub write_paths-returns-in_err-write_path : goal.write_paths-returns-in_err-write_path
 write_paths-returns-in_err-write_path t c =

@@ -1,5 +1,6 @@
 use Rattle.std.proofs.Common.{refl, arith}
-use Rattle.fc_text.proofs.Octets.{full_4, hex_text_4}
+use Rattle.fc_base.proofs.HexTexts.{hex_text_4}
+use Rattle.fc_text.proofs.Octets.{full_4}
 use Rattle.fc_text.proofs.message.four_bytes.Goals as goal
 
 pub returns : goal.returns

@@ -1,7 +1,7 @@
 use Rattle.std.proofs.Common.{◌≡◌, ◌++◌, ◌∷◌, [], ◌/◌, ◌%◌, slice_index}
 use Rattle.fc_base.specs.Hex.{hex_digit}
-use Rattle.fc_text.proofs.Octets.{byte_on}
-use Rattle.fc_text.proofs.hexes.push_each.Goals as goal
+use Rattle.fc_base.proofs.HexTexts.{byte_on}
+use Rattle.fc_base.proofs.digits.push_each.Goals as goal
 
 pub bytes-preserved : goal.bytes-preserved
 bytes-preserved c =
