@@ -7,7 +7,8 @@ use Rattle.fc_wire.specs.Tlvs.{TlvItem, tlvs}
 use Rattle.fc_wire.specs.declared.header.WireFault.{WireFault}
 use Rattle.fc_wire.proofs.ItemLaws.{tlvs_described, tlvs_read}
 use Rattle.fc_path.specs.Reading.{each_in, select_at, single, some_in}
-use Rattle.fc_path.specs.Stray.{◌>>=◌, shut, trailing}
+use Rattle.fc_base.specs.Answers.{◌>>=◌}
+use Rattle.fc_path.specs.Stray.{shut, trailing}
 use Rattle.fc_path.specs.declared.fault.PathFault.{PathFault}
 use Rattle.fc_path.specs.declared.fault.PathFault.TheVariants as faults
 use Rattle.fc_path.proofs.Complete.{by_tiling}

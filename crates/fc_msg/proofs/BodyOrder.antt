@@ -5,7 +5,8 @@ use Rattle.std.specs.List.{AllByRecursion, flat_map}
 use Rattle.fc_wire.specs.Bytes.{u32_at}
 use Rattle.fc_wire.specs.Tlvs.{TlvItem}
 use Rattle.fc_wire.specs.declared.header.WireFault.{WireFault}
-use Rattle.fc_path.specs.Stray.{◌>>=◌, misplaced, shut, trailing}
+use Rattle.fc_base.specs.Answers.{◌>>=◌}
+use Rattle.fc_path.specs.Stray.{misplaced, shut, trailing}
 use Rattle.fc_path.specs.Reading.{each_in, select_at, single, some_in}
 use Rattle.fc_path.specs.Visits as visits
 use Rattle.fc_path.specs.Visits.{Visit, visit, IsGood, FirstBad, unless, walk_in, nothing, select_visits}

@@ -4,7 +4,7 @@ use Rattle.fc_wire.specs.Bytes.{AreBytes, u32_at}
 use Rattle.fc_wire.specs.Tlvs.{TlvItem, tlvs}
 use Rattle.fc_wire.specs.declared.header.WireFault.{WireFault}
 use Rattle.fc_path.specs.Reading.{single}
-use Rattle.fc_path.specs.Stray.{◌>>=◌}
+use Rattle.fc_base.specs.Answers.{◌>>=◌}
 use Rattle.fc_path.specs.declared.fault.PathFault.TheVariants as faults
 use Rattle.fc_path.proofs.Complete.{alone, by_tiling, item}
 use Rattle.fc_path.proofs.Sound.{Tiles, bind_ok, bytes_padded, bytes_split, ok_same, single_spelled, then_ok}

@@ -9,7 +9,7 @@ use Rattle.fc_wire.proofs.ItemLaws.{tlvs_read}
 use Rattle.fc_path.specs.Grammar.{Each, IsSelect}
 use Rattle.fc_path.specs.Proper.{ProperSelect}
 use Rattle.fc_path.specs.Reading.{each_in, select_at, some_in}
-use Rattle.fc_path.specs.Stray.{◌>>=◌}
+use Rattle.fc_base.specs.Answers.{◌>>=◌}
 use Rattle.fc_path.specs.declared.oper.Select.{Select}
 use Rattle.fc_path.proofs.Complete.{Tile, by_tiling, each_tiled, item, some_read}
 use Rattle.fc_path.proofs.GrammarProper.{all_of, proper_of}

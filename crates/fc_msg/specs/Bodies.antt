@@ -5,7 +5,8 @@ use Rattle.fc_wire.specs.Bytes.{u32_at}
 use Rattle.fc_wire.specs.Tlvs.{TlvItem}
 use Rattle.fc_wire.specs.declared.header.WireFault.{WireFault}
 use Rattle.fc_path.specs.Reading.{each_in, select_at, single, some_in}
-use Rattle.fc_path.specs.Stray.{◌>>=◌, shut, trailing}
+use Rattle.fc_base.specs.Answers.{◌>>=◌}
+use Rattle.fc_path.specs.Stray.{shut, trailing}
 use Rattle.fc_path.specs.declared.fault.PathFault.{PathFault}
 use Rattle.fc_path.specs.declared.fault.PathFault.TheVariants as faults
 use Rattle.fc_path.specs.declared.oper.Select.{Select}

@@ -10,7 +10,8 @@ use Rattle.fc_wire.specs.declared.header.WireFault.{WireFault}
 use Rattle.fc_wire.specs.declared.ilvs.Ilv.{Ilv}
 use Rattle.fc_wire.proofs.ItemLaws.{tlvs_read, ilvs_read}
 use Rattle.fc_path.specs.Kinds.{is_known, holds_selects}
-use Rattle.fc_path.specs.Stray.{◌>>=◌, misplaced, beside, trailing, shut}
+use Rattle.fc_base.specs.Answers.{◌>>=◌}
+use Rattle.fc_path.specs.Stray.{misplaced, beside, trailing, shut}
 use Rattle.fc_path.specs.Reading.{each_in, some_in, single, full_at, outcome_at, own, sparse_in, sparse_at, key_at, path_or, body_in, content_in, numbers, path_at, oper_by, oper_at, select_at, end_of}
 use Rattle.fc_path.specs.Grammar.{Each, IsResult, IsOwnIlv, IsKey, IsPathBy, IsBody, IsKeyed, IsValueIn, IsPath, IsOper, IsSelectOf}
 use Rattle.fc_path.specs.declared.fault.PathFault.{PathFault}

@@ -6,7 +6,8 @@ use Rattle.fc_wire.specs.Ilvs.{IlvItem, ilvs}
 use Rattle.fc_wire.specs.declared.header.WireFault.{WireFault}
 use Rattle.fc_wire.specs.declared.header.WireFault.TheVariants as wire
 use Rattle.fc_path.specs.Kinds.{is_known, in_select, operation_of, holds_selects}
-use Rattle.fc_path.specs.Stray.{◌>>=◌, misplaced, beside, trailing, shut}
+use Rattle.fc_base.specs.Answers.{◌>>=◌}
+use Rattle.fc_path.specs.Stray.{misplaced, beside, trailing, shut}
 use Rattle.fc_path.specs.Reading.{each_in, some_in, single, full_at, outcome_at, sparse_in, sparse_at, key_at, leaf_at, path_or, nested_in, body_in, content_in, numbers, path_at, operation_at, oper_by, oper_at, select_at, end_of}
 use Rattle.fc_path.specs.declared.fault.PathFault.{PathFault}
 use Rattle.fc_path.specs.declared.fault.PathFault.TheVariants as faults

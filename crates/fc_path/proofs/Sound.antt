@@ -12,7 +12,8 @@ use Rattle.fc_wire.specs.declared.ilvs.Ilv.{Ilv}
 use Rattle.fc_wire.proofs.ItemLaws.{tlvs_described, ilvs_described}
 use Rattle.fc_wire.proofs.Spelled.{bytes_drop}
 use Rattle.fc_path.specs.Kinds.{is_known, operation_of, holds_selects, takes_nothing, takes_full, takes_sparse, takes_outcome}
-use Rattle.fc_path.specs.Stray.{◌>>=◌, Gives, misplaced, beside, trailing, shut}
+use Rattle.fc_base.specs.Answers.{◌>>=◌}
+use Rattle.fc_path.specs.Stray.{Gives, misplaced, beside, trailing, shut}
 use Rattle.fc_path.specs.Reading.{each_in, some_in, single, full_at, outcome_at, own, sparse_in, sparse_at, key_at, leaf_at, path_or, nested_in, body_in, content_in, numbers, path_at, operation_at, oper_by, oper_at, select_at, end_of}
 use Rattle.fc_path.specs.Grammar.{Each, IsResult, IsOwnIlv, IsKey, IsPathBy, IsBody, IsKeyed, IsValue, IsValueIn, IsPath, IsOper, IsSelectOf}
 use Rattle.fc_path.specs.declared.fault.PathFault.{PathFault}

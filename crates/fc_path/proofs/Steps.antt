@@ -4,7 +4,8 @@ use Rattle.fc_wire.specs.Bytes.{u16_at}
 use Rattle.fc_wire.specs.Tiling.{Tiling, next_of, rest_of}
 use Rattle.fc_wire.specs.Tlvs.{TlvItem, tlvs}
 use Rattle.fc_wire.specs.declared.header.WireFault.{WireFault}
-use Rattle.fc_path.specs.Stray.{◌>>=◌, Fails, beside, shut}
+use Rattle.fc_base.specs.Answers.{◌>>=◌}
+use Rattle.fc_path.specs.Stray.{Fails, beside, shut}
 use Rattle.fc_path.specs.Reading.{each_in, some_in, path_or, body_in, leaf_at, path_at, content_in, numbers, end_of}
 use Rattle.fc_path.specs.declared.fault.PathFault.{PathFault}
 use Rattle.fc_path.specs.declared.fault.PathFault.TheVariants as faults

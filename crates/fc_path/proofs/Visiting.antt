@@ -8,7 +8,8 @@ use Rattle.fc_wire.specs.Ilvs.{IlvItem, ilvs}
 use Rattle.fc_wire.specs.declared.header.WireFault.{WireFault}
 use Rattle.fc_wire.specs.declared.header.WireFault.TheVariants as wire
 use Rattle.fc_path.specs.Kinds.{is_known, operation_of, holds_selects, takes_nothing, takes_full, takes_sparse, takes_outcome}
-use Rattle.fc_path.specs.Stray.{◌>>=◌, misplaced, beside, trailing, shut}
+use Rattle.fc_base.specs.Answers.{◌>>=◌}
+use Rattle.fc_path.specs.Stray.{misplaced, beside, trailing, shut}
 use Rattle.fc_path.specs.Reading.{each_in, some_in, single, full_at, outcome_at, sparse_in, sparse_at, key_at, leaf_at, path_or, nested_in, body_in, content_in, numbers, path_at, operation_at, oper_by, oper_at, select_at, end_of}
 use Rattle.fc_path.specs.Visits as visits
 use Rattle.fc_path.specs.Visits.{Visit, visit, IsGood, FirstBad, unless, Slot, is_body, oper_stands, stands, behind, behind_body, ends, place_of, walk_in, ilv_walk_in, nothing, key_visits, sparse_visits, outcome_visits, data_visits, path_visits, operation_visits, oper_visits_by, oper_visits, select_visits}

@@ -9,7 +9,8 @@ use Rattle.fc_wire.specs.declared.header.WireFault.{WireFault}
 use Rattle.fc_wire.specs.declared.header.WireFault.TheVariants as wire
 use Rattle.fc_wire.specs.declared.ilvs.Ilv.{Ilv}
 use Rattle.fc_path.specs.Kinds.{is_known, in_select, operation_of, holds_selects, takes_nothing, takes_full, takes_sparse, takes_outcome}
-use Rattle.fc_path.specs.Stray.{◌>>=◌, misplaced, beside, trailing, shut}
+use Rattle.fc_base.specs.Answers.{◌>>=◌}
+use Rattle.fc_path.specs.Stray.{misplaced, beside, trailing, shut}
 use Rattle.fc_path.specs.declared.fault.PathFault.{PathFault}
 use Rattle.fc_path.specs.declared.fault.PathFault.TheVariants as faults
 use Rattle.fc_path.specs.declared.kinds.Operation.{Operation}

@@ -1,33 +1,31 @@
 -- TLVs that may not stand where they do, and the fault of each (this profile's own order of refusals).
-use Rattle.std.specs.Prelude.{◌≡◌, List, [], ◌∷◌, Option, Some, None, Result, Ok, Err, if◌then◌else◌}
+use Rattle.std.specs.Prelude.{◌≡◌, List, [], ◌∷◌, Option, Some, None, IfSome, Result, Ok, Err, if◌then◌else◌}
+use Rattle.fc_base.specs.Answers as answers
 use Rattle.fc_wire.specs.Tlvs.{TlvItem}
 use Rattle.fc_wire.specs.declared.header.WireFault.{WireFault}
 use Rattle.fc_path.specs.Kinds.{is_known}
 use Rattle.fc_path.specs.declared.fault.PathFault.{PathFault}
 use Rattle.fc_path.specs.declared.fault.PathFault.TheVariants as faults
 
+-- the fault of reading that a fault tells: none where it tells that memory was wanting
+abbrev pub told : PathFault → Option PathFault
+told (faults.Wire fault) = Some (faults.Wire fault)
+told (faults.UnknownTlv place) = Some (faults.UnknownTlv place)
+told (faults.CountPast place) = Some (faults.CountPast place)
+told (faults.KeyFlag place) = Some (faults.KeyFlag place)
+told (faults.TwoBodies place) = Some (faults.TwoBodies place)
+told (faults.Deep place) = Some (faults.Deep place)
+told (faults.WrongBody place) = Some (faults.WrongBody place)
+told (faults.Trailing place) = Some (faults.Trailing place)
+told faults.Memory = None
+
 -- the fault is want of memory, or the one that reading gives
 abbrev pub Fails : {X : Type 0} → PathFault → Result X PathFault → Type 0
-Fails (faults.Wire fault) read = read ≡ Err (faults.Wire fault)
-Fails (faults.UnknownTlv place) read = read ≡ Err (faults.UnknownTlv place)
-Fails (faults.CountPast place) read = read ≡ Err (faults.CountPast place)
-Fails (faults.KeyFlag place) read = read ≡ Err (faults.KeyFlag place)
-Fails (faults.TwoBodies place) read = read ≡ Err (faults.TwoBodies place)
-Fails (faults.Deep place) read = read ≡ Err (faults.Deep place)
-Fails (faults.WrongBody place) read = read ≡ Err (faults.WrongBody place)
-Fails (faults.Trailing place) read = read ≡ Err (faults.Trailing place)
-Fails faults.Memory read = Unit {0}
+Fails fault read = IfSome (told fault) (λ f. read ≡ Err f)
 
 -- what a call answers is what reading gives, unless memory is wanting
 abbrev pub Gives : {X : Type 0} → Result X PathFault → Result X PathFault → Type 0
-Gives (Ok x) read = read ≡ Ok x
-Gives (Err fault) read = Fails fault read
-
--- first one, and then the other with what it gave
-infixl 10 ◌>>=◌
-abbrev pub ◌>>=◌ : {A B : Type 0} → Result A PathFault → (A → Result B PathFault) → Result B PathFault
-(Ok x) >>= f = f x
-(Err fault) >>= f = Err fault
+Gives = answers.Gives (λ x. x) told
 
 -- a TLV that may not stand here
 abbrev pub misplaced : TlvItem → PathFault

@@ -5,7 +5,7 @@ use Rattle.fc_path.specs.declared.oper.Step.TheVariants as step
 use Rattle.fc_tree.specs.Finding.{invalid_path, no_component, or_code}
 use Rattle.fc_types.specs.Components.{ComponentDecl}
 use Rattle.fc_types.specs.declared.class.Class.{Class}
-use Rattle.fc_value.specs.Outcomes.{◌>>=◌}
+use Rattle.fc_base.specs.Answers.{◌>>=◌}
 use Rattle.fc_store.specs.declared.spots.Purpose.{Purpose}
 use Rattle.fc_store.specs.declared.spots.Purpose.TheVariants as purpose
 

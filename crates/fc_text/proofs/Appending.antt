@@ -8,7 +8,8 @@ use Rattle.fc_wire.specs.Header.{IsHeader}
 use Rattle.fc_wire.specs.declared.header.Header.{Header}
 use Rattle.fc_wire.specs.Tlvs.{TlvItem, tlvs}
 use Rattle.fc_wire.specs.declared.header.WireFault.{WireFault}
-use Rattle.fc_path.specs.Stray.{◌>>=◌, Fails}
+use Rattle.fc_base.specs.Answers.{◌>>=◌}
+use Rattle.fc_path.specs.Stray.{Fails}
 use Rattle.fc_path.specs.Kinds.{holds_selects}
 use Rattle.fc_path.specs.Reading.{each_in, some_in, end_of, oper_at, select_at}
 use Rattle.fc_path.specs.declared.oper.Select.{Select}

@@ -14,7 +14,8 @@ use Rattle.fc_msg.specs.declared.message.MsgBody.TheVariants.{Setup, SetupRespon
 use Rattle.fc_text.specs.FirstMisfit.{RestBefore}
 use Rattle.fc_text.specs.LineWords.{WordsLeft, LinesLeft, lines_left, line_at, stands_at, none_left, closed, word_in, exactly, labelled_in, ended as words_ended}
 use Rattle.fc_text.specs.TextGrammar.{oper_lines, select_lines, content_lines, message_lines, SpellsLine, AreEach}
-use Rattle.fc_text.specs.TextPlaces.{TextPlace, place, ◌>>=◌}
+use Rattle.fc_base.specs.Answers.{◌>>=◌}
+use Rattle.fc_text.specs.TextPlaces.{TextPlace, place}
 use Rattle.fc_text.specs.WordValues.{digits_of}
 use Rattle.fc_text.specs.declared.reading.Head.{Head}
 use Rattle.fc_text.specs.TextReading.{Reader, many_at, some_at, code_in, outcome_at, places_at, operation_at, number_named, operation_named, operation_in, oper_at, select_at, number_at, content_at, message_named, type_in, head_at, shut, message_of, whole_at}

@@ -3,7 +3,8 @@ use Rattle.std.proofs.Common.{◌≡◌, ◌≤◌, ◌+◌, ℕ, Bool, true, fa
 use Rattle.std.specs.List.{AllByRecursion}
 use Rattle.fc_text.specs.FirstMisfit.{before}
 use Rattle.fc_text.specs.LineWords.{WordsLeft, LinesLeft, words_left, lines_left, placed, word_in, meaning, fits_as, ended as words_ended}
-use Rattle.fc_text.specs.TextPlaces.{TextPlace, place, ◌>>=◌}
+use Rattle.fc_base.specs.Answers.{◌>>=◌}
+use Rattle.fc_text.specs.TextPlaces.{TextPlace, place}
 use Rattle.fc_text.proofs.ReadLines.{next_word}
 use Rattle.fc_text.proofs.SplitLines.{IsWord}
 

@@ -8,7 +8,8 @@ use Rattle.fc_path.specs.declared.oper.OperKind.{OperKind}
 use Rattle.fc_path.specs.declared.path.Body.{Body}
 use Rattle.fc_msg.specs.Messages.{message_fits}
 use Rattle.fc_text.specs.LineWords.{WordItem, WordsLeft, LinesLeft, lines_left, stands_at, spaces_before, line_of, line_at, word_in, ended, exactly, decimal_in, digits_in, octets_in, labelled_in}
-use Rattle.fc_text.specs.TextPlaces.{TextPlace, ◌>>=◌}
+use Rattle.fc_base.specs.Answers.{◌>>=◌}
+use Rattle.fc_text.specs.TextPlaces.{TextPlace}
 use Rattle.fc_text.specs.TextReading.{Reader, and_more, each_at, many_at, some_at, ilv_at, steps_in, code_in, outcome_at, leaf_in, path_by, path_line, paths_by, last_body, body_by, body_at, places_at, operation_at, operation_in, oper_at, select_at, number_at, content_at, type_in, head_at, shut, whole_at, message_at}
 
 -- the lines that were taken and those that are left

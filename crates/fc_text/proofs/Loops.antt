@@ -3,7 +3,8 @@ use Rattle.std.proofs.Common.{◌≡◌, ◌≢◌, ◌-◌, ℕ, zero, suc, ◌
 use Rattle.fc_path.specs.declared.oper.OperKind.{OperKind}
 use Rattle.fc_path.specs.declared.path.PathData.{PathData}
 use Rattle.fc_path.specs.declared.path.Body.{Body}
-use Rattle.fc_text.specs.TextPlaces.{TextPlace, Fails, ◌>>=◌}
+use Rattle.fc_base.specs.Answers.{◌>>=◌}
+use Rattle.fc_text.specs.TextPlaces.{TextPlace, Fails}
 use Rattle.fc_text.specs.LineWords.{LinesLeft, WordsLeft, stands_at}
 use Rattle.fc_text.specs.TextReading.{Reader, and_more, each_at, many_at, some_at, path_by, path_line, paths_by, body_at, body_by}
 use Rattle.fc_text.specs.declared.fault.TextFault.{TextFault}

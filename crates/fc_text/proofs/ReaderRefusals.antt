@@ -8,7 +8,8 @@ use Rattle.fc_path.specs.declared.oper.OperKind.{OperKind}
 use Rattle.fc_path.specs.declared.path.Key.{Key}
 use Rattle.fc_path.specs.declared.path.Body.{Body}
 use Rattle.fc_text.specs.LineWords.{WordItem, WordsLeft, words_left, stands_at, none_left, ended, ended_of}
-use Rattle.fc_text.specs.TextPlaces.{TextPlace, place, ◌>>=◌}
+use Rattle.fc_base.specs.Answers.{◌>>=◌}
+use Rattle.fc_text.specs.TextPlaces.{TextPlace, place}
 use Rattle.fc_text.specs.TextReading.{Reader, many_at, some_at, key_in, steps_of, steps_in, code_in, ilv_at, outcome_at, leaf_in, path_by, path_line, paths_by, last_body, body_by, body_at, places_at, operation_at, oper_at, select_at, number_at, content_at, head_at, message_of, whole_at}
 use Rattle.fc_text.specs.WordValues.{decimal_of}
 use Rattle.fc_text.proofs.ReadFront.{Front, stands_looks, none_looks, ilv_front, ilv_shrinks, ilvs_front, outcome_front, path_by_front, path_line_front, path_line_shrinks, paths_front, paths_by_front, body_front, places_front, oper_front, oper_shrinks, opers_front, select_front, select_shrinks, selects_front, some_selects_front, number_front, content_front, head_front, shut_with, shut_by, shut_is, whole_front, whole_shrinks}

@@ -2,7 +2,8 @@
 use Rattle.std.proofs.Common.{◌≡◌, ◌<◌, ◌≤◌, ◌+◌, ℕ, zero, suc, Bool, true, false, cond, List, [], ◌∷◌, ◌++◌, length, Some, Result, Ok, Err, append_assoc, length-append, refl, sym, ap, subst, ◌∙◌, arith, inl}
 use Rattle.fc_text.specs.FirstMisfit.{RestAt, IsColumn}
 use Rattle.fc_text.specs.LineWords.{LinesLeft, lines_left, stands_at}
-use Rattle.fc_text.specs.TextPlaces.{TextPlace, place, ◌>>=◌}
+use Rattle.fc_base.specs.Answers.{◌>>=◌}
+use Rattle.fc_text.specs.TextPlaces.{TextPlace, place}
 use Rattle.fc_text.specs.TextReading.{Reader, and_more, many_at, some_at}
 use Rattle.fc_text.proofs.ReadFront.{ReadFront, Front, Shrinks, Looks, next_indent, next_behind, stands_looks, many_step, next_item, items_by, many_front}
 

@@ -21,7 +21,8 @@ use Rattle.fc_wire.specs.Flags.{FlagValues}
 use Rattle.fc_text.specs.LineWords.{WordsLeft, LinesLeft, lines_of, text_lines, line_at, closed, none_left, ended as words_ended, exactly, decimal_in, digits_in, labelled_in}
 use Rattle.fc_text.specs.Text.{body_name, kind_name}
 use Rattle.fc_text.specs.TextGrammar.{Word, Line, name, number, digits, flags, code_line, path_lines, oper_lines, select_lines, number_line, content_lines, message_lines, SpellsWord, SpellsLine, SpellsText, SpellsSelects, AreEach, AreLines}
-use Rattle.fc_text.specs.TextPlaces.{TextPlace, place, ◌>>=◌}
+use Rattle.fc_base.specs.Answers.{◌>>=◌}
+use Rattle.fc_text.specs.TextPlaces.{TextPlace, place}
 use Rattle.fc_text.specs.declared.reading.Head.{Head}
 use Rattle.fc_text.specs.TextReading.{many_at, some_at, outcome_at, places_at, operation_at, number_named, operation_named, operation_in, oper_at, select_at, number_at, content_at, message_named, type_in, head_at, shut, message_of, whole_at, message_at, text_in, body_in}
 use Rattle.fc_text.proofs.SoundValues.{given_some, same_some}

@@ -2,7 +2,8 @@
 use Rattle.std.proofs.Common.{◌≡◌, ◌<◌, ◌≤◌, ◌+◌, ◌*◌, ◌==◌, ◌⊎◌, ℕ, Bool, true, false, cond, List, [], ◌∷◌, ◌++◌, length, drop, Option, Some, None, Result, Ok, Err, inl, inr, refl, sym, ap, subst, ◌∙◌, arith, eqb-true, eq-eqb}
 use Rattle.fc_text.specs.FirstMisfit.{RestAt, SameAt, IsColumn, word_at, words_on}
 use Rattle.fc_text.specs.LineWords.{WordItem, WordsLeft, LinesLeft, words_of, words_left, words_from, lines_left, spaces_before, line_at, word_of, word_in, ended_of, ended, fits_as, meaning, exactly, this_word, decimal_in, digits_in, octets_in, labelled_in, labelled_digits}
-use Rattle.fc_text.specs.TextPlaces.{TextPlace, place, ◌>>=◌}
+use Rattle.fc_base.specs.Answers.{◌>>=◌}
+use Rattle.fc_text.specs.TextPlaces.{TextPlace, place}
 use Rattle.fc_text.specs.TextReading.{Reader, operation_in, operation_named, type_in, message_named}
 use Rattle.fc_text.specs.WordValues.{decimal_of, digits_of, octets_of}
 use Rattle.fc_text.proofs.ReadFront.{Front, front_line_at}

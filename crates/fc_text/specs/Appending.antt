@@ -1,7 +1,8 @@
 -- What is appended to a text while bytes are read, so that what they mean is never held whole. This profile's own.
 use Rattle.std.specs.Prelude.{◌≡◌, ◌==◌, ℕ, if◌then◌else◌, List, [], ◌++◌, codes, Result, Ok, Err}
 use Rattle.fc_wire.specs.declared.header.Header.{Header}
-use Rattle.fc_path.specs.Stray.{◌>>=◌, Fails}
+use Rattle.fc_base.specs.Answers.{◌>>=◌}
+use Rattle.fc_path.specs.Stray.{Fails}
 use Rattle.fc_path.specs.declared.fault.PathFault.{PathFault}
 use Rattle.fc_msg.specs.Bodies.{holding}
 use Rattle.fc_msg.specs.declared.message.Message.{Message}

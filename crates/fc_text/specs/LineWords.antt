@@ -2,7 +2,8 @@
 -- its words. This profile's own.
 use Rattle.std.specs.Prelude.{◌≡◌, ◌<◌, ℕ, suc, get_or, ◌+◌, ◌*◌, ◌==◌, if◌then◌else◌, List, [], ◌∷◌, length, take, drop, Bool, true, false, Option, Some, None, Result, Ok, Err}
 use Rattle.std.specs.Str.{bytes_eq}
-use Rattle.fc_text.specs.TextPlaces.{TextPlace, place, ◌>>=◌}
+use Rattle.fc_base.specs.Answers.{◌>>=◌}
+use Rattle.fc_text.specs.TextPlaces.{TextPlace, place}
 use Rattle.fc_text.specs.WordValues.{given, decimal_of, digits_of, octets_of}
 
 -- with one byte more in front of the first piece

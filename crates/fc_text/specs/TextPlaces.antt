@@ -37,9 +37,3 @@ RefusedAt Is (Err faults.Memory) = Unit {0}
 abbrev pub Reads : {X S : Type 0} → Result (X × S) TextPlace → Result X TextFault → S → Type 0
 Reads read (Ok x) rest = read ≡ Ok (x, rest)
 Reads read (Err fault) rest = Fails read fault
-
--- first one, and then the other with what it gave
-infixl 10 ◌>>=◌
-abbrev pub ◌>>=◌ : {A B : Type 0} → Result A TextPlace → (A → Result B TextPlace) → Result B TextPlace
-(Ok x) >>= f = f x
-(Err fault) >>= f = Err fault

@@ -22,7 +22,8 @@ use Rattle.fc_msg.specs.declared.message.Message.{Message}
 use Rattle.fc_msg.specs.declared.message.MsgBody.{MsgBody}
 use Rattle.fc_msg.specs.declared.message.MsgBody.TheVariants.{Setup, SetupResponse, Teardown, Heartbeat}
 use Rattle.fc_text.specs.declared.reading.Head.{Head}
-use Rattle.fc_text.specs.TextPlaces.{TextPlace, place, ◌>>=◌}
+use Rattle.fc_base.specs.Answers.{◌>>=◌}
+use Rattle.fc_text.specs.TextPlaces.{TextPlace, place}
 use Rattle.fc_text.specs.WordValues.{given, decimal_of}
 use Rattle.fc_text.specs.LineWords.{WordItem, WordsLeft, LinesLeft, words_left, stands_at, text_lines, line_at, closed, word_in, ended, fits_as, meaning, exactly, decimal_in, digits_in, octets_in, labelled_in}
 

@@ -3,7 +3,7 @@ use Rattle.std.proofs.Common.{◌≡◌, ℕ, zero, suc, List, [], ◌∷◌, sl
 use Rattle.std.specs.Option.{ok_or}
 use Rattle.fc_types.specs.declared.ty.Ty.{Ty}
 use Rattle.fc_value.specs.Nodes.{changed, child, node_at, put_at, with_child, with_child_layer, with_entry}
-use Rattle.fc_value.specs.Outcomes.{◌>>=◌}
+use Rattle.fc_base.specs.Answers.{◌>>=◌}
 use Rattle.fc_value.specs.declared.value.Value.{Value, out-Value, roll-Value}
 use Rattle.fc_value.specs.declared.value.Value.TheOpen.{Value-F}
 use Rattle.fc_value.specs.declared.value.Value.TheViews.{out-roll-Value}

@@ -17,7 +17,7 @@ use Rattle.fc_types.specs.declared.ty.Ty.{Ty}
 use Rattle.fc_types.specs.declared.ty.Ty.TheOpen.{Ty-F}
 use Rattle.fc_types.specs.declared.ty.Ty.TheViews.{out-Ty}
 use Rattle.fc_value.specs.Keys.{key_value}
-use Rattle.fc_value.specs.Outcomes.{◌>>=◌}
+use Rattle.fc_base.specs.Answers.{◌>>=◌}
 use Rattle.fc_tree.proofs.Places.{put_belongs}
 use Rattle.fc_tree.specs.Finding.{entries_of, key_in, no_component, not_found, or_code, place_in, place_layer, with_key}
 use Rattle.fc_tree.specs.Putting.{entered}

@@ -12,7 +12,8 @@ use Rattle.fc_types.specs.declared.ty.Ty.{Ty}
 use Rattle.fc_types.specs.declared.ty.Ty.TheOpen.{Ty-F}
 use Rattle.fc_types.specs.declared.ty.Ty.TheViews.{out-Ty}
 use Rattle.fc_value.specs.Nodes.{put_at}
-use Rattle.fc_value.specs.Outcomes.{◌>>=◌, invalid_tlv}
+use Rattle.fc_base.specs.Answers.{◌>>=◌}
+use Rattle.fc_value.specs.Outcomes.{invalid_tlv}
 use Rattle.fc_value.specs.Sparse.{sparse_in}
 use Rattle.fc_value.specs.declared.value.Value.{Value}
 use Rattle.fc_wire.specs.declared.ilvs.Ilv.{Ilv}

@@ -7,7 +7,8 @@ use Rattle.fc_types.specs.declared.ty.Ty.{Ty}
 use Rattle.fc_types.specs.declared.ty.Ty.TheOpen.{Ty-F}
 use Rattle.fc_types.specs.declared.ty.Ty.TheViews.{out-Ty}
 use Rattle.fc_value.specs.Nodes.{with_child}
-use Rattle.fc_value.specs.Outcomes.{◌>>=◌, invalid_parameters}
+use Rattle.fc_base.specs.Answers.{◌>>=◌}
+use Rattle.fc_value.specs.Outcomes.{invalid_parameters}
 use Rattle.fc_value.specs.declared.value.Value.{Value}
 use Rattle.fc_value.specs.declared.value.Value.TheVariants as value
 use Rattle.fc_tree.specs.Finding.{entries_of, invalid_path, not_found, part_at, place_in}

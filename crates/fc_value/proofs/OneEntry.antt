@@ -2,7 +2,8 @@
 use Rattle.std.proofs.Common.{◌≡◌, refl, ℕ, Bool, true, false, List, length, drop, nat_lt, nat_le, nat_cmp, Result, Ok, Err, if◌then◌else◌}
 use Rattle.std.specs.BTreeMap.{insert_entry}
 use Rattle.fc_wire.specs.Bytes.{u32_at}
-use Rattle.fc_value.specs.Outcomes.{◌>>=◌, invalid_tlv, out_of_range}
+use Rattle.fc_base.specs.Answers.{◌>>=◌}
+use Rattle.fc_value.specs.Outcomes.{invalid_tlv, out_of_range}
 use Rattle.fc_value.specs.Reading.{Reader, entry_in, has_subscript}
 use Rattle.fc_value.specs.declared.value.Value.{Value}
 

@@ -13,7 +13,8 @@ use Rattle.std.specs.Ordering.{nat_cmp}
 use Rattle.std.specs.BTreeMap.{insert_entry}
 use Rattle.fc_base.specs.declared.faults.OpFault.{OpFault}
 use Rattle.fc_base.specs.declared.faults.OpFault.TheVariants as faults
-use Rattle.fc_value.specs.Outcomes.{◌>>=◌, Fails, out_of_range}
+use Rattle.fc_base.specs.Answers.{◌>>=◌}
+use Rattle.fc_value.specs.Outcomes.{Fails, out_of_range}
 use Rattle.fc_value.proofs.OneEntry.{entry_is}
 use Rattle.fc_value.proofs.Conditions.{not_below_is}
 use Rattle.fc_value.specs.Numbers.{is_width, number_of}

@@ -15,7 +15,8 @@ use Rattle.fc_types.specs.declared.ty.Ty.TheOpen.{Ty-F}
 use Rattle.fc_types.specs.declared.ty.Ty.TheViews.{out-Ty}
 use Rattle.fc_wire.specs.Bytes.{u16_at, u16_bytes, u32_at, u32_bytes, AreBytes}
 use Rattle.fc_base.specs.declared.faults.OpFault.{OpFault}
-use Rattle.fc_value.specs.Outcomes.{◌>>=◌, Gives}
+use Rattle.fc_base.specs.Answers.{◌>>=◌}
+use Rattle.fc_value.specs.Outcomes.{Gives}
 use Rattle.fc_value.specs.Numbers.{is_width, number_of}
 use Rattle.fc_value.specs.Keys.{keys_differ}
 use Rattle.fc_value.specs.Reading.{Reader, taken, truth_in, ranged, number_in, fixed_in, text_of, octets_of, cut, unpadded, closed, held, each_in, has_subscript, entry_in, entries_by, entries_in, table_of, inside, alone, full_layer, full_in}

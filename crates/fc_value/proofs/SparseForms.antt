@@ -10,7 +10,8 @@ use Rattle.fc_types.specs.declared.ty.Ty.TheOpen.{Ty-F}
 use Rattle.fc_types.specs.declared.ty.Ty.TheViews.{out-Ty}
 use Rattle.fc_types.proofs.Sounds.{level_is_sound}
 use Rattle.fc_wire.specs.declared.ilvs.Ilv.{Ilv}
-use Rattle.fc_value.specs.Outcomes.{◌>>=◌, Gives}
+use Rattle.fc_base.specs.Answers.{◌>>=◌}
+use Rattle.fc_value.specs.Outcomes.{Gives}
 use Rattle.fc_value.specs.Reading.{full_in}
 use Rattle.fc_value.specs.Sparse.{part_layer, part_of, value_of, is_named, change_in, changes_in, sparse_in}
 use Rattle.fc_value.specs.SparseForm.{HoldBytes, AreChanges, IsSparse}

@@ -18,7 +18,8 @@ use Rattle.fc_types.specs.declared.ty.Ty.TheFolds.{ind-Ty, para-roll-Ty, para-ro
 use Rattle.fc_wire.specs.Bytes.{u16_at, u32_at}
 use Rattle.fc_value.specs.Keys.{keys_differ}
 use Rattle.fc_value.specs.Numbers.{is_width, number_of}
-use Rattle.fc_value.specs.Outcomes.{◌>>=◌, invalid_tlv, invalid_parameters, out_of_range}
+use Rattle.fc_base.specs.Answers.{◌>>=◌}
+use Rattle.fc_value.specs.Outcomes.{invalid_tlv, invalid_parameters, out_of_range}
 use Rattle.fc_value.specs.Reading.{Reader, taken, truth_in, ranged, number_in, fixed_in, text_of, octets_of, cut, closed, held, each_in, group_in, has_subscript, entries_by, entries_in, table_of, inside, alone, full_in}
 use Rattle.fc_value.specs.Trials.{Trial, IsPassed, FirstFailed, fails, Walk, is_none, truth_walk, is_outside, number_walk, fixed_walk, text_trials, octets_trials, held_in, behind, padding_of, held_walk, each_walk, entries_trials, keys_trial, table_trials, walk_step, walk_field, inside_walk, inside_walk_at, full_trials}
 use Rattle.fc_value.specs.declared.value.Value.{Value}

@@ -14,7 +14,8 @@ use Rattle.fc_types.specs.declared.ty.Ty.TheViews.{out-Ty}
 use Rattle.fc_types.specs.declared.ty.Ty.TheFolds.{para-Ty, para-Field}
 use Rattle.fc_wire.specs.Bytes.{u16_at, u32_at}
 use Rattle.fc_wire.specs.Types as types
-use Rattle.fc_value.specs.Outcomes.{◌>>=◌, invalid_tlv, invalid_parameters, out_of_range}
+use Rattle.fc_base.specs.Answers.{◌>>=◌}
+use Rattle.fc_value.specs.Outcomes.{invalid_tlv, invalid_parameters, out_of_range}
 use Rattle.fc_value.specs.Numbers.{is_width, number_of}
 use Rattle.fc_value.specs.Keys.{keys_differ}
 use Rattle.fc_value.specs.declared.value.Value.{Value}

@@ -8,7 +8,8 @@ use Rattle.fc_types.specs.declared.ty.Ty.{Ty}
 use Rattle.fc_types.specs.declared.ty.Ty.TheOpen.{Ty-F}
 use Rattle.fc_types.specs.declared.ty.Ty.TheViews.{out-Ty}
 use Rattle.fc_wire.specs.declared.ilvs.Ilv.{Ilv}
-use Rattle.fc_value.specs.Outcomes.{◌>>=◌, invalid_tlv}
+use Rattle.fc_base.specs.Answers.{◌>>=◌}
+use Rattle.fc_value.specs.Outcomes.{invalid_tlv}
 use Rattle.fc_value.specs.Reading.{full_in}
 use Rattle.fc_value.specs.declared.value.Value.{Value}
 

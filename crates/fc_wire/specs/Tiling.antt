@@ -1,6 +1,7 @@
 -- How bytes are items, one after the other, up to their end or to the first fault: RFC 5810, sections 6.2 and 6.3, on
 -- the TLVs and ILVs of a container.
 use Rattle.std.specs.Prelude.{◌≡◌, ◌<◌, ℕ, zero, suc, ◌+◌, ◌-◌, List, [], ◌∷◌, ◌++◌, length, Option, Some, None, option_map, Result, Ok, Err}
+use Rattle.fc_base.specs.Answers as answers
 use Rattle.fc_wire.specs.declared.header.WireFault.{WireFault}
 
 -- the items in their order, and the fault behind them, if they do not go on to the end
@@ -49,5 +50,4 @@ tiles one place bytes = tiles_by one (length bytes) place bytes
 
 -- what a function answers, seen in this way, is what reading gives
 abbrev pub Answers : {X Y : Type 0} → (X → Y) → Result X WireFault → Result Y WireFault → Type 0
-Answers view (Ok x) read = read ≡ Ok (view x)
-Answers view (Err fault) read = read ≡ Err fault
+Answers view = answers.Gives view Some

@@ -1,11 +1,7 @@
-use Rattle.std.proofs.Common.{◌≡◌, ◌≢◌, ◌+◌, ◌-◌, ◌*◌, ◌/◌, ◌^◌, ◌==◌, length, drop, Some, true, sym, ap, ◌∙◌, arith, subst}
+use Rattle.std.proofs.Common.{◌≢◌, ◌-◌, Some, sym, ap, ◌∙◌, arith, subst}
 use Rattle.std.proofs.lemmas.Result.{err_from_is_err_and}
-use Rattle.fc_wire.specs.Bytes.{u16_at}
-use Rattle.fc_wire.specs.Tiling.{Tiling}
-use Rattle.fc_wire.specs.Tlvs.{TlvItem, tlvs}
-use Rattle.fc_path.specs.Kinds.{is_known}
-use Rattle.fc_path.specs.Stray.{Fails}
-use Rattle.fc_path.specs.Reading.{path_at, content_in}
+use Rattle.fc_wire.specs.Tlvs.{TlvItem}
+use Rattle.fc_path.specs.Reading.{path_at}
 use Rattle.fc_path.proofs.Heading.{body_stops, built, head_stops}
 use Rattle.fc_path.proofs.Steps.{body_leaf_fails, body_shut_fails, body_shut}
 use Rattle.fc_path.proofs.read_path.+read.Goals as goal

@@ -1,5 +1,5 @@
 use Rattle.std.proofs.Common.{◌≡◌, ◌++◌, length, Ok}
-use Rattle.fc_path.specs.Stray.{◌>>=◌}
+use Rattle.fc_base.specs.Answers.{◌>>=◌}
 use Rattle.fc_path.specs.Reading.{sparse_in, sparse_at}
 use Rattle.fc_path.proofs.read_path.read_sparse.Given as goal
 

@@ -1,5 +1,5 @@
 use Rattle.std.proofs.Common.{◌≡◌, ◌++◌, length, Ok}
-use Rattle.fc_path.specs.Stray.{◌>>=◌}
+use Rattle.fc_base.specs.Answers.{◌>>=◌}
 use Rattle.fc_path.specs.Reading.{each_in, oper_at}
 use Rattle.fc_path.proofs.read_select.read_opers.Given as goal
 

@@ -1,5 +1,6 @@
 use Rattle.std.proofs.Common.{◌≡◌, ◌++◌, length, Ok}
-use Rattle.fc_path.specs.Stray.{◌>>=◌, misplaced}
+use Rattle.fc_base.specs.Answers.{◌>>=◌}
+use Rattle.fc_path.specs.Stray.{misplaced}
 use Rattle.fc_path.specs.Reading.{each_in, path_or, path_at}
 use Rattle.fc_path.proofs.read_select.read_paths.Given as goal
 

@@ -1,5 +1,5 @@
 use Rattle.std.proofs.Common.{◌≡◌, ◌++◌, ◌≤◌, [], map, drop, length, Ok}
-use Rattle.fc_value.specs.Outcomes.{◌>>=◌}
+use Rattle.fc_base.specs.Answers.{◌>>=◌}
 use Rattle.fc_value.specs.Reading.{each_in, inside, inside_at, entries_in}
 use Rattle.fc_value.proofs.read.+read.Given as goal
 

@@ -1,9 +1,7 @@
-use Rattle.std.proofs.Common.{◌≡◌, ◌+◌, ◌-◌, ◌*◌, ◌/◌, ◌^◌, ◌==◌, length, drop, sym, ap, ◌∙◌, arith}
-use Rattle.std.proofs.lemmas.Result.{err_from_is_err_and}
+use Rattle.std.proofs.Common.{◌+◌, ◌*◌, ◌/◌, ◌^◌, ◌==◌, length, drop, ap, ◌∙◌, arith}
 use Rattle.fc_wire.specs.Bytes.{u16_at}
 use Rattle.fc_wire.specs.Tlvs.{TlvItem}
-use Rattle.fc_path.specs.Reading.{numbers}
-use Rattle.fc_path.proofs.Heading.{head_fails, head_ok}
+use Rattle.fc_path.proofs.Heading.{head_ok}
 use Rattle.fc_path.proofs.heads.PathHead.read.Goals as goal
 
 pub returns : goal.returns
