@@ -1,5 +1,5 @@
 -- One element by itself goes as the protocol's.
-use Rattle.std.proofs.Common.{eq-eqb, ◌≡◌, ℕ, List, [], ◌∷◌, ◌++◌, refl, sym, ap, ◌∙◌, subst}
+use Rattle.std.proofs.Common.{eq-eqb, ◌≡◌, ℕ, true, List, [], ◌∷◌, ◌++◌, refl, sym, ap, ◌∙◌, subst}
 use Rattle.fc_machine.specs.ElementMachine.{Input, Opened, Arrived, Closed, Moment, Step, on_moment, step, steps}
 use Rattle.fc_machine.specs.ElementState.{Entry, Element, new_element, ops_of, bares, tx}
 use Rattle.fc_machine.specs.Ground.{Ground, Lawful}
@@ -11,7 +11,7 @@ use Rattle.fc_headline.proofs.Arriving.{IsSilent, moment_aside, arrives, beat_si
 use Rattle.fc_headline.proofs.Folded.{steps_fold, new_folds}
 use Rattle.fc_headline.proofs.Likes.{bare_append}
 use Rattle.fc_headline.proofs.Scopes.{Fine}
-use Rattle.fc_headline.proofs.Sound.{steps_sound, new_sound}
+use Rattle.fc_headline.proofs.Sound.{each_held, steps_sound, new_sound, all_pass}
 use Rattle.fc_headline.proofs.Worlds.{in_bare, in_whole}
 use Rattle.fc_protocol.specs.ElementMachine as protocol
 use Rattle.fc_protocol.specs.ElementMachine.{ElementState, Circumstance, Heard, only_says, hears}
@@ -100,7 +100,7 @@ module _ {Config Op Subs : Type 0} (g : Ground Config Op Subs) where
       let a = goes_as g p inputs first [] in
       let r = steps g p inputs first [] in
       let f = steps_fold g law opening p inputs first [] (new_folds g opening p) in
-      let s = steps_sound g ce p inputs first [] (new_sound g ce opening subs) in
+      let s = steps_sound g ce p (λ ops. true) inputs first [] (all_pass inputs) (new_sound g ce (λ ops. true) opening subs) in
       let h = hears_all p a.0 (protocol.new_element ce) [] in
       let records : bares r.element.records ≡ h.element.records = ap (λ (e : ElementState). e.records) a.1.0 in
       record {
@@ -117,5 +117,5 @@ module _ {Config Op Subs : Type 0} (g : Ground Config Op Subs) where
         owned = subst (Owned ce) (sym a.1.0) (owned_law ce p a.0);
         controller = s.0;
         kept = s.1;
-        rests = s.2;
+        rests = (each_held (λ ops. true) r.element.records s.2).0;
       }

@@ -9,7 +9,7 @@ use Rattle.fc_machine.specs.Messages.{Message, Setup, Beat, Response, Says, Noti
 use Rattle.fc_machine.specs.Messages as message
 use Rattle.fc_machine.specs.Trace.{Fact, Of_protocol, Added_at, Plain_at, bare_facts}
 use Rattle.fc_machine.specs.Views.{config_body, query_body, view, view_told, views, turns, circumstance_of}
-use Rattle.fc_machine.specs.WorldSteps.{Parcel, is_down, Spoke, Called, Masters, World, can_live, Step, Open, Deliver, Passes, Restart, Start, Stop, Begin, Change, Give_up, Resend, Forget, first_world, parcels, numbered, sender, with_step, with_spoke, to_master, delivers, may_start, starts, with_begun, called, begun_by, begin_at, change_at, give_up_at, forget_at, resend_at, happens, run, viewed, MastersFit}
+use Rattle.fc_machine.specs.WorldSteps.{Parcel, is_down, Spoke, Called, Masters, World, can_live, Step, Open, Deliver, Passes, Restart, Start, Stop, Begin, Change, Give_up, Resend, Forget, first_world, parcels, numbered, sender, with_step, with_spoke, to_master, delivers, starts, with_begun, called, begun_by, begin_at, change_at, give_up_at, forget_at, resend_at, happens, run, viewed, MastersFit}
 use Rattle.fc_headline.proofs.Arriving.{moment_aside, arrives}
 use Rattle.fc_protocol.specs.Collections.{among, put}
 use Rattle.fc_protocol.specs.ElementMachine.{Circumstance, ElementState, Heard, only_says, hears}
