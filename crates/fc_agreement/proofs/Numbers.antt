@@ -1,6 +1,6 @@
 -- One life makes a transaction, once, with one list of participants.
 use Rattle.std.proofs.Common.{◌≡◌, ℕ, ◌+◌, ◌*◌, ◌^◌, ◌<◌, ◌≤◌, ◌&&◌, ◌||◌, ◌==◌, eqb-true, Bool, true, false, cond, nat_lt, List, [], ◌∷◌, ◌++◌, Option, Some, None, is_some, inl, inr, ⊎_elim, refl, sym, ap, ◌∙◌, subst, arith}
-use Rattle.fc_agreement.specs.Agreement.{Agree, SettleOnce, Ready, OnePlan, Settled, SettledWhole, BegunOnce, SaysOnce, SaysDecision, Mirrors, FollowsCore, FloorsSettle, FloorsReach, AtRest, Bounded}
+use Rattle.fc_agreement.specs.Agreement.{Agree, SettleOnce, Ready, OnePlan, Settled, SettledWhole, BegunOnce, SaysOnce, SaysDecision, Mirrors, FollowsCore, FloorsSettle, FloorsReach, FloorsAnswered, AtRest, Bounded}
 use Rattle.fc_protocol.specs.Collections.{put, among}
 use Rattle.fc_agreement.specs.Core.{Core, moves, start}
 use Rattle.fc_protocol.specs.ElementMachine.{Circumstance}
@@ -14,12 +14,13 @@ use Rattle.fc_protocol.specs.declared.states.Seen.{Seen}
 use Rattle.fc_base.specs.Ids.{Txn}
 use Rattle.fc_protocol.proofs.Puts.{put_here, both_first, both_second}
 use Rattle.fc_protocol.proofs.Basics.{In, both, cond_true, same_true, same_of, put_rest}
+use Rattle.fc_protocol.proofs.Order.{under_is}
 use Rattle.fc_agreement.proofs.Facts.{Past, Lives, Named}
 use Rattle.fc_agreement.proofs.Hears.{cond_all}
 use Rattle.fc_agreement.proofs.Calls.{may_begin}
 use Rattle.fc_agreement.proofs.Calm.{LifeCalm, calm_finishes, all_calm}
 use Rattle.fc_agreement.proofs.Binding.{same_life, fresh_life, may_start_is, first_tied}
-use Rattle.fc_agreement.proofs.Runs.{Bound, run_tied, agrees, settles_once, readies, opens_alike, settled_there, says_apart, says_decided, begun_run, mirrors, below_settled, floor_reached, bounded}
+use Rattle.fc_agreement.proofs.Runs.{Bound, run_tied, agrees, settles_once, readies, opens_alike, settled_there, says_apart, says_decided, begun_run, mirrors, below_settled, floor_reached, floor_answered, floor_life, bounded}
 
 abbrev Alike : Master → Master → Type 0
 Alike m n = (n.epoch ≡ m.epoch) × (n.begun ≡ m.begun) × (n.elements ≡ m.elements)
@@ -432,6 +433,13 @@ module _ (net : Network) (ss : List Step) where
 
   pub floors_reach_law : FloorsReach world
   floors_reach_law f p q k m = floor_reached f (parts_of f world.begun) world (goes f) f p q k m
+
+  pub floors_answered_law : FloorsAnswered world
+  floors_answered_law f p q j k m n e i l a =
+      let x : Txn = record { epoch = 0; number = 0 } in
+      let b = goes x in
+      let manned : m.elements ≡ world.network.elements = subst (Manned world.network.elements) e (ids.manned k) in
+      floor_answered x (parts_of x world.begun) world b f p q j k m n e i l (under_is x f (inl (floor_life x (parts_of x world.begun) world b f q j n i))) (ap (among p) manned ∙ a)
 
   pub at_rest_law : AtRest world
   at_rest_law k m e = calm_finishes k m (subst LifeCalm e (all_calm net ss k))

@@ -1,6 +1,5 @@
 -- Who has claimed an element.
-use Rattle.std.proofs.Common.{◌≡◌, ℕ, ◌+◌, ◌/◌, ◌%◌, ◌^◌, ◌==◌, ◌&&◌, not, nat_lt, Bool, true, false, cond, List, [], ◌∷◌, ◌++◌, Option, Some, None, ⊎_elim, refl, sym, ap, ◌∙◌, subst, eqb-true, arith}
-use Rattle.fc_base.specs.Ids.{Txn}
+use Rattle.std.proofs.Common.{◌≡◌, ℕ, ◌+◌, ◌==◌, ◌&&◌, Bool, true, false, cond, List, [], ◌∷◌, ◌++◌, Option, Some, None, ⊎_elim, refl, sym, ap, ◌∙◌, eqb-true}
 use Rattle.fc_protocol.specs.ElementMachine.{ElementState, new_element, Circumstance, Heard, only_says, reply, by_verdict, configured, by_body, hears}
 use Rattle.fc_protocol.specs.Fence.{claims, judge}
 use Rattle.fc_protocol.specs.Messages.{is_epoch, Stamp, Body, Claim, Sot, Mot, Eot, Trcomp, Abt, Floor, Malformed, Plain, Ask, Ask_record, claim_of}

@@ -8,6 +8,7 @@ use Rattle.fc_protocol.specs.Floors.{is_under, is_below}
 use Rattle.fc_protocol.specs.Jobs.{Job, find}
 use Rattle.fc_protocol.specs.MasterMachine.{last_count, Refusal, begin_refusal, plain_refusal, give_up_refusal, forget_refusal, Master}
 use Rattle.fc_protocol.specs.Messages.{same, Floor, Trcomp, Abt, Beat, Unread, Stamp, Message, Setup, Request, Reply, Holds, Tells, Other_up, Other_down, Sent, sent}
+use Rattle.fc_protocol.specs.OneElement.{end_of as record_end}
 use Rattle.fc_protocol.specs.Records.{seen, state_of, is_held}
 use Rattle.fc_protocol.specs.Trace.{Fact, Opened_at, Prepared_at, Settled_at}
 use Rattle.fc_protocol.specs.WorldSteps.{Open, Give_up, controller_of, World, Begun, Step, Deliver, Moment, Start, Stop, Begin, Change, Resend, Forget, forget_by, forget_at, Restart, restarts, murmurs, numbered, may_start, begin_by, give_up_by, change_by, change_at, says, to_master, delivered, delivers, starts, begin_at, give_up_at, resend_at, happens, run}
@@ -171,7 +172,15 @@ module _ (x : Txn) (parts : List ℕ) where
 
   -- the world is what the core tells
   pub mirrors : (w : World) (c : Core) → Tied x parts w c → Mirrors x c w
-  mirrors w c t = ((λ p. (sym (t.elements p).epoch, λ b. sym ((t.elements p).state b))), (λ k m e. (master_is x parts (past w c) k (w.masters k) m e (t.masters k)).jobs.decided))
+  mirrors w c t = (
+    (λ p. (sym (t.elements p).epoch, λ b. sym ((t.elements p).state b))),
+    (λ p d. ((λ i. (t.marks p).settled d i ∙ sym (ended d)), (λ e. (t.marks p).ended d (e ∙ ended d)))),
+    (λ k m e. (master_is x parts (past w c) k (w.masters k) m e (t.masters k)).jobs.decided),
+  )
+    where
+      ended : (d : Decision) → seen (Some (record_end d)) ≡ done d
+      ended Complete = refl
+      ended Abort = refl
 
   -- what is below a floor that was sent has settled
   end_of : (s : Seen) → is_live s ≡ false → (s ≡ Absent → ⊥) → (d : Decision) × (s ≡ done d)
@@ -198,6 +207,22 @@ module _ (x : Txn) (parts : List ℕ) where
       let at : f.epoch ≡ m.life = g.means.0 in
       let up : m.life ≤ (c.at p).epoch = g.means.3 p a in
       let same_epoch : (w.at p).epoch ≡ (c.at p).epoch = (b.1.elements p).epoch in
+      omega arith
+
+  -- while the life of a floor runs, each of its elements has answered it; here x is below the floor
+  pub floor_answered : (w : World) → Bound w → (f : Txn) (p q j k : ℕ) (m : Master) (n : Stamp) → w.masters k ≡ Some m → In (sent q j (Request n (Floor f))) w.sent → n.life ≡ m.epoch → is_under x f ≡ true → among p m.elements ≡ true → (m.at p).answered ≡ true
+  floor_answered w b f p q j k m n e i l u a =
+      let v = master_is x parts (past w b.0) k (w.masters k) m e (b.1.masters k) in
+      let known = (v.forgets.floors q j n f i l).1 u in
+      known.0 p a
+
+  -- a floor that was sent is of a life
+  pub floor_life : (w : World) → Bound w → (f : Txn) (q j : ℕ) (n : Stamp) → In (sent q j (Request n (Floor f))) w.sent → 0 < f.epoch
+  floor_life w b f q j n i =
+      let g : RequestFine x parts (past w b.0) j q n (Floor f) = b.1.sent (sent q j (Request n (Floor f))) i in
+      let at : f.epoch ≡ n.life = g.means.0 in
+      let e : n.life ≡ 256 * g.life.0 + j = g.life.2 in
+      let r : 0 < g.life.0 = g.life.5 in
       omega arith
 
   pub below_settled : (w : World) → Bound w → (f : Txn) (p q k : ℕ) (m : Stamp) → In (sent q k (Request m (Floor f))) w.sent → is_under x f ≡ true

@@ -7,6 +7,7 @@ use Rattle.fc_protocol.specs.Floors.{is_under, is_below}
 use Rattle.fc_protocol.specs.Jobs.{Job, find, is_settled}
 use Rattle.fc_protocol.specs.MasterMachine.{Master, finish}
 use Rattle.fc_protocol.specs.Messages.{Stamp, Body, Request, Trcomp, Abt, Floor, sent}
+use Rattle.fc_protocol.specs.OneElement.{end_of}
 use Rattle.fc_protocol.specs.Records.{seen, state_of, is_held}
 use Rattle.fc_protocol.specs.Trace.{Fact, Opened_at, Prepared_at, Settled_at}
 use Rattle.fc_protocol.specs.WorldSteps.{World, Begun}
@@ -58,10 +59,12 @@ SaysDecision w =
     (x : Txn) (p j k : ℕ) (m : Master) (n : Stamp) → w.masters k ≡ Some m → n.life ≡ m.epoch
     → (In (sent p j (Request n (Trcomp x))) w.sent → decision_of (find x m.jobs) ≡ Some Complete) × (In (sent p j (Request n (Abt x))) w.sent → decision_of (find x m.jobs) ≡ Some Abort)
 
--- the core tells each element's epoch and record of x, where x is not below the element's floor, and what each running master has decided of it
+-- the core tells each element's epoch, its record of x, where x is not below its floor, and how it has settled x, whatever it has forgotten; and what each running master has decided of x
 abbrev pub Mirrors : Txn → Core → World → Type 0
 Mirrors x c w =
-    ((p : ℕ) → ((c.at p).epoch ≡ (w.at p).epoch) × (is_below x (w.at p).floor ≡ false → (c.at p).state ≡ seen (state_of x (w.at p).records))) × ((k : ℕ) (m : Master) → w.masters k ≡ Some m → c.decided m.epoch ≡ decision_of (find x m.jobs))
+    ((p : ℕ) → ((c.at p).epoch ≡ (w.at p).epoch) × (is_below x (w.at p).floor ≡ false → (c.at p).state ≡ seen (state_of x (w.at p).records)))
+    × ((p : ℕ) (d : Decision) → (In (Settled_at p x d) w.facts → (c.at p).state ≡ seen (Some (end_of d))) × ((c.at p).state ≡ seen (Some (end_of d)) → In (Settled_at p x d) w.facts))
+    × ((k : ℕ) (m : Master) → w.masters k ≡ Some m → c.decided m.epoch ≡ decision_of (find x m.jobs))
 
 -- whatever has happened until w, and from there until v, is, for each transaction, a list of moves of its core
 abbrev pub FollowsCore : World → World → Type 0
@@ -78,11 +81,15 @@ FloorsSettle w =
 abbrev pub FloorsReach : World → Type 0
 FloorsReach w = (f : Txn) (p q k : ℕ) (m : Stamp) → In (sent q k (Request m (Floor f))) w.sent → among p w.network.elements ≡ true → f.epoch ≤ (w.at p).epoch
 
+-- where a running master's life has sent a floor, every element has answered it
+abbrev pub FloorsAnswered : World → Type 0
+FloorsAnswered w = (f : Txn) (p q j k : ℕ) (m : Master) (n : Stamp) → w.masters k ≡ Some m → In (sent q j (Request n (Floor f))) w.sent → n.life ≡ m.epoch → among p w.network.elements ≡ true → (m.at p).answered ≡ true
+
 -- no running master has anything left to decide or to send: what is due was sent with the input that made it due
 abbrev pub AtRest : World → Type 0
 AtRest w = (k : ℕ) (m : Master) → w.masters k ≡ Some m → finish k m ≡ record { master = m; says = [] }
 
--- every number in a request, a floor among them, at an element and of a running master fits in its 32 bits
+-- the halves of the correlator of a request, the parts of a floor that is sent or kept, and the epochs, sequences and counts of elements and of running masters fit in their 32 bits
 abbrev pub Bounded : World → Type 0
 Bounded w =
     ((p k : ℕ) (m : Stamp) (b : Body) → In (sent p k (Request m b)) w.sent → (m.life < 2 ^ 32) × (m.count < 2 ^ 32))

@@ -1,7 +1,7 @@
 //! The laws of the protocol. Each function has no body: what it ensures holds of the definitions in specs/.
 
 ghost use Rattle.std.specs.Prelude.{◌≡◌, ℕ, ◌<◌, List, []};
-ghost use Rattle.fc_agreement.specs.Agreement.{Agree, SettleOnce, Ready, OnePlan, Settled, SettledWhole, BegunOnce, SaysOnce, SaysDecision, FollowsCore, FloorsSettle, FloorsReach, AtRest, Bounded};
+ghost use Rattle.fc_agreement.specs.Agreement.{Agree, SettleOnce, Ready, OnePlan, Settled, SettledWhole, BegunOnce, SaysOnce, SaysDecision, FollowsCore, FloorsSettle, FloorsReach, FloorsAnswered, AtRest, Bounded};
 ghost use Rattle.fc_agreement.specs.CleanRound.{CleanRound};
 ghost use Rattle.fc_agreement.specs.Core.{Core, Move, moves, start};
 ghost use Rattle.fc_agreement.specs.CoreLaws.{OneEnd, PreparedBefore, PreparedDecided, ReachedDecided, NoLaterAbort, AnswersStay, EndsStay, DecisionsStay};
@@ -36,6 +36,7 @@ pub fn agreement()
     ensures follows_core { (n : Network) (steps more : List Step) → FollowsCore (run steps (first_world n)) (run more (run steps (first_world n))) }
     ensures floors_settle { (n : Network) (steps : List Step) → FloorsSettle (run steps (first_world n)) }
     ensures floors_reach { (n : Network) (steps : List Step) → FloorsReach (run steps (first_world n)) }
+    ensures floors_answered { (n : Network) (steps : List Step) → FloorsAnswered (run steps (first_world n)) }
     ensures at_rest { (n : Network) (steps : List Step) → AtRest (run steps (first_world n)) }
     ensures bounded { (n : Network) (steps : List Step) → Bounded (run steps (first_world n)) }
 {}

@@ -1,5 +1,5 @@
 -- One element by itself goes as the protocol's.
-use Rattle.std.proofs.Common.{eq-eqb, ◌≡◌, ℕ, List, [], ◌∷◌, ◌++◌, refl, sym, ap, ◌∙◌, subst}
+use Rattle.std.proofs.Common.{eq-eqb, ◌≡◌, ℕ, true, List, [], ◌∷◌, ◌++◌, refl, sym, ap, ◌∙◌, subst}
 use Rattle.fc_machine.specs.ElementMachine.{Input, Opened, Arrived, Closed, Moment, Step, on_moment, step, steps}
 use Rattle.fc_machine.specs.ElementState.{Entry, Element, new_element, ops_of, bares, tx}
 use Rattle.fc_machine.specs.Ground.{Ground, Lawful}
@@ -11,18 +11,19 @@ use Rattle.fc_headline.proofs.Arriving.{IsSilent, moment_aside, arrives, beat_si
 use Rattle.fc_headline.proofs.Folded.{steps_fold, new_folds}
 use Rattle.fc_headline.proofs.Likes.{bare_append}
 use Rattle.fc_headline.proofs.Scopes.{Fine}
+use Rattle.fc_headline.proofs.Sound.{each_held, steps_sound, new_sound, all_pass}
 use Rattle.fc_headline.proofs.Worlds.{in_bare, in_whole}
 use Rattle.fc_protocol.specs.ElementMachine as protocol
 use Rattle.fc_protocol.specs.ElementMachine.{ElementState, Circumstance, Heard, only_says, hears}
 use Rattle.fc_protocol.specs.Messages as said
 use Rattle.fc_protocol.specs.Messages.{Request}
-use Rattle.fc_protocol.specs.OneElement.{Arrival, hears_all, Distinct, Limited, ScopesApart, FewParticipants, FloorClear, Owned}
+use Rattle.fc_protocol.specs.OneElement.{Arrival, hears_all, Distinct, Limited, ScopesApart, FewParticipants, FloorClear, Owned, RecordsTell}
 use Rattle.fc_agreement.proofs.Ownership.{owned_law}
 use Rattle.fc_protocol.specs.Trace as trace
 use Rattle.fc_protocol.specs.Trace.{Prepared_at, Settled_at}
 use Rattle.fc_protocol.specs.declared.states.Decision.TheVariants.{Complete}
 use Rattle.fc_protocol.proofs.Basics.{AllOf}
-use Rattle.fc_agreement.proofs.OneElement.{first_law, settles_law, distinct_law, limited_law, apart_law, few_law, clear_law}
+use Rattle.fc_agreement.proofs.OneElement.{first_law, settles_law, distinct_law, limited_law, apart_law, few_law, clear_law, tell_law}
 
 module _ {Config Op Subs : Type 0} (g : Ground Config Op Subs) (p : ℕ) where
   -- the element, and all its facts, are those of these requests
@@ -99,11 +100,13 @@ module _ {Config Op Subs : Type 0} (g : Ground Config Op Subs) where
       let a = goes_as g p inputs first [] in
       let r = steps g p inputs first [] in
       let f = steps_fold g law opening p inputs first [] (new_folds g opening p) in
+      let s = steps_sound g ce p (λ ops. true) inputs first [] (all_pass inputs) (new_sound g ce (λ ops. true) opening subs) in
       let h = hears_all p a.0 (protocol.new_element ce) [] in
       let records : bares r.element.records ≡ h.element.records = ap (λ (e : ElementState). e.records) a.1.0 in
       record {
         prepared = λ x later before e. in_whole (Prepared_at p x) before (first_law p ce a.0 x (bare_facts later) (bare_facts before) (sym a.1.1 ∙ ap bare_facts e ∙ bare_append later (Of_protocol (Settled_at p x Complete) ∷ before)));
         once = λ x d e later before s i. settles_law p ce a.0 x d e (bare_facts later) (bare_facts before) (sym a.1.1 ∙ ap bare_facts s ∙ bare_append later (Of_protocol (Settled_at p x d) ∷ before)) (in_bare (Settled_at p x e) before i);
+        tells = subst (RecordsTell p r.element.floor (bares r.element.records)) (sym a.1.1) (subst (λ (e : ElementState). RecordsTell p e.floor e.records h.facts) (sym a.1.0) (tell_law p ce a.0));
         distinct = subst Distinct (sym records) (distinct_law p ce a.0);
         limited = subst Limited (sym records) (limited_law p ce a.0);
         apart = subst ScopesApart (sym records) (apart_law p ce a.0);
@@ -112,4 +115,7 @@ module _ {Config Op Subs : Type 0} (g : Ground Config Op Subs) where
         inside = to_inside r.element.records f.0.fine;
         unclaimed = λ z. f.1 (eq-eqb r.element.epoch 0 z);
         owned = subst (Owned ce) (sym a.1.0) (owned_law ce p a.0);
+        controller = s.0;
+        kept = s.1;
+        rests = (each_held (λ ops. true) r.element.records s.2).0;
       }

@@ -10,6 +10,7 @@ pub mod Arriving
 pub mod Likes
 pub mod Owned
 pub mod Worlds
+pub mod Sound
 pub mod Alone
 pub mod Forgetting
 pub mod Rounds

@@ -9,7 +9,7 @@ use Rattle.fc_machine.specs.Messages.{Message, Setup, Beat, Response, Says, Noti
 use Rattle.fc_machine.specs.Messages as message
 use Rattle.fc_machine.specs.Trace.{Fact, Of_protocol, Added_at, Plain_at, bare_facts}
 use Rattle.fc_machine.specs.Views.{config_body, query_body, view, view_told, views, turns, circumstance_of}
-use Rattle.fc_machine.specs.WorldSteps.{Parcel, is_down, Spoke, Called, Masters, World, Step, Open, Deliver, Passes, Restart, Start, Stop, Begin, Change, Give_up, Resend, Forget, first_world, parcels, numbered, sender, with_step, with_spoke, to_master, delivers, may_start, starts, with_begun, called, begun_by, begin_at, change_at, give_up_at, forget_at, resend_at, happens, run, viewed, MastersFit}
+use Rattle.fc_machine.specs.WorldSteps.{Parcel, is_down, Spoke, Called, Masters, World, can_live, Step, Open, Deliver, Passes, Restart, Start, Stop, Begin, Change, Give_up, Resend, Forget, first_world, parcels, numbered, sender, with_step, with_spoke, to_master, delivers, starts, with_begun, called, begun_by, begin_at, change_at, give_up_at, forget_at, resend_at, happens, run, viewed, MastersFit}
 use Rattle.fc_headline.proofs.Arriving.{moment_aside, arrives}
 use Rattle.fc_protocol.specs.Collections.{among, put}
 use Rattle.fc_protocol.specs.ElementMachine.{Circumstance, ElementState, Heard, only_says, hears}
@@ -318,9 +318,9 @@ module _ {Config Op Subs M P C : Type 0} (g : Ground Config Op Subs) (ms : Maste
     likes_if true v x w y l k = l
     likes_if false v x w y l k = k
 
-    start_like : (v : W) (w : steps.World) (k r : ℕ) → Likes v w → Likes (starts g ms v k r) (steps.starts w k r)
-    start_like v w k r l =
-        let f = fit.born (256 * r + k) v.network.elements in
+    start_like : (v : W) (w : steps.World) (k r : ℕ) → can_live (256 * r + k) v.network.elements ≡ true → Likes v w → Likes (starts g ms v k r) (steps.starts w k r)
+    start_like v w k r b l =
+        let f = fit.born (256 * r + k) v.network.elements b in
         record {
           like = record {
             network = l.like.network;
@@ -334,7 +334,8 @@ module _ {Config Op Subs M P C : Type 0} (g : Ground Config Op Subs) (ms : Maste
           good = good_put v.masters k (Some (ms.born (256 * r + k) v.network.elements)) l.good (λ b i. some_is (ms.born (256 * r + k) v.network.elements) b i f.0);
         }
 
-    may_same : (v : W) (w : steps.World) (k r : ℕ) → Likes v w → may_start g ms v k r ≡ steps.may_start w k r
+    -- where a life can have the elements, it begins here where it begins there
+    may_same : (v : W) (w : steps.World) (k r : ℕ) → Likes v w → ((is_some (controller_of v.network.controllers k) && is_round r) && (is_none (v.masters k) && not (among r (v.used k)))) ≡ steps.may_start w k r
     may_same v w k r l =
         ap (λ n. (is_some (controller_of n.controllers k) && is_round r) && (is_none (v.masters k) && not (among r (v.used k)))) l.like.network
         ∙ ap (λ b. (is_some (controller_of w.network.controllers k) && is_round r) && (b && not (among r (v.used k)))) (sym (none_same ms.core (v.masters k)) ∙ ap is_none (l.like.masters k))
@@ -348,6 +349,11 @@ module _ {Config Op Subs M P C : Type 0} (g : Ground Config Op Subs) (ms : Maste
       where
         none_is : (b : M) → None ≡ Some b → Good b
         none_is b i = cc
+
+    -- a life that can't have these elements begins neither here nor there, where nothing is delivered in its place
+    starts_if : (v : W) (w : steps.World) (k r : ℕ) (can may : Bool) → can_live (256 * r + k) v.network.elements ≡ can → may ≡ steps.may_start w k r → Likes v w → (t : steps.Step) × Likes (cond (can && may) (starts g ms v k r) v) (steps.happens w t)
+    starts_if v w k r false may e f l = (steps.Deliver 0 no_circumstance, l)
+    starts_if v w k r true may e f l = (steps.Start k r, subst (λ b. Likes (cond may (starts g ms v k r) v) (cond b (steps.starts w k r) w)) f (likes_if may _ _ _ _ (start_like v w k r e l) l))
 
     -- a step there is one here
     pub step_likes : (v : W) (w : steps.World) (s : Step P C) → Likes v w → (t : steps.Step) × Likes (happens g ms v s) (steps.happens w t)
@@ -369,8 +375,7 @@ module _ {Config Op Subs M P C : Type 0} (g : Ground Config Op Subs) (ms : Maste
       subst (λ n. Likes (happens g ms v (Restart p)) (cond (among p n.elements) (steps.says w (murmurs p [])) w)) l.like.network
           (likes_if (among p v.network.elements) _ _ _ _ (record { like = aside_like v w p (machine.no_fact (restarted (v.at p)) []) [] l.like refl refl refl; good = l.good }) l),
     )
-    step_likes v w (Start k r) l =
-        (steps.Start k r, subst (λ b. Likes (happens g ms v (Start k r)) (cond b (steps.starts w k r) w)) (may_same v w k r l) (likes_if (may_start g ms v k r) _ _ _ _ (start_like v w k r l) l))
+    step_likes v w (Start k r) l = starts_if v w k r (can_live (256 * r + k) v.network.elements) ((is_some (controller_of v.network.controllers k) && is_round r) && (is_none (v.masters k) && not (among r (v.used k)))) refl (may_same v w k r l) l
     step_likes v w (Stop k) l = (steps.Stop k, stop_like v w k l)
     step_likes v w (Begin k plan) l =
         (steps.Begin k (ms.parts plan) (ms.counts plan) (ms.scopes plan), subst (λ o. Likes (begin_at g ms v k plan (v.masters k)) (steps.begin_at w k (ms.parts plan) (ms.counts plan) (ms.scopes plan) o)) (l.like.masters k) (begin_like v w k plan (v.masters k) l refl))

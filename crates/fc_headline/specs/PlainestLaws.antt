@@ -47,7 +47,7 @@ all_back Op f (s ∷ ss) = ap (λ m. sent s.element s.controller m ∷ viewed (a
 -- the plainest masters do what the protocol says
 pub plainest_fit : (Op : Type 0) → MastersFit (plainest Op) (λ _. Unit {0})
 plainest_fit Op = record {
-  born = λ e es. (tt, refl);
+  born = λ e es l. (tt, refl);
   hears = λ k m p x g. (tt, refl, all_back Op m.changes (protocol.at_once k m.core p (view x) ++ (protocol.finish k (protocol.heard m.core p (view x))).says));
   begins = λ k m plan g. record { refused = refl; taken = λ _. (tt, refl, all_back Op (with_changes (protocol.next_txn m.core) plan.changes m.changes) (protocol.finish k (protocol.begins m.core plan.parts plan.counts plan.scopes)).says) };
   changes = λ k m p c g. record { refused = refl; taken = λ _. (tt, refl, all_back Op m.changes (protocol.sends_one k m.core p (Some Plain)).says) };

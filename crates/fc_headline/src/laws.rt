@@ -5,7 +5,7 @@ ghost use Rattle.std.specs.List.{AllByRecursion};
 ghost use Rattle.fc_headline.specs.CleanRound.{CleanRound};
 ghost use Rattle.fc_headline.specs.Folds.{ElementFolds};
 ghost use Rattle.fc_headline.specs.Headline.{Headline};
-ghost use Rattle.fc_headline.specs.OneElement.{ElementKeeps};
+ghost use Rattle.fc_headline.specs.OneElement.{ElementKeeps, RestsPass};
 ghost use Rattle.fc_machine.specs.ElementState.{Element};
 ghost use Rattle.fc_machine.specs.Messages.{Configuring, Message};
 ghost use Rattle.fc_machine.specs.Views.{Goes, circumstance_of, rest_of, rest_shown};
@@ -15,10 +15,12 @@ ghost use Rattle.fc_protocol.specs.WorldSteps.{Network};
 use crate::Grounds;
 
 /// Over every list of inputs: the settled configuration is the fold of what was completed, and the working one that of what is held on it; what is completed was prepared before, and each
-/// transaction is settled once at most; scopes that are held are apart, and there are at most 64 of them and at most 4,096 records.
+/// transaction is settled once at most; scopes that are held are apart, and there are at most 64 of them and at most 4,096 records, which tell what was settled; what is not held has no rests, and each rest came with a Config that was
+/// not too long; and the kept reply has the correlator of the epoch and the sequence.
 pub fn element_folds<G: Grounds>()
     ensures folds { ElementFolds G.basis }
     ensures keeps { ElementKeeps G.basis }
+    ensures rests { RestsPass G.basis }
 {}
 
 /// At every moment of every script, whatever is lost, repeated or reordered, and whichever controllers and elements stop and return: no two elements settle one transaction differently; each that completes one had every participant prepared; each

@@ -1,4 +1,4 @@
-use Rattle.fc_agreement.proofs.Numbers.{agree_law, once_law, ready_law, one_plan_law, settled_law, settled_whole_law, begun_once_law, says_once_law, says_decision_law, follows_core_law, at_rest_law, floors_settle_law, floors_reach_law, bounded_law}
+use Rattle.fc_agreement.proofs.Numbers.{agree_law, once_law, ready_law, one_plan_law, settled_law, settled_whole_law, begun_once_law, says_once_law, says_decision_law, follows_core_law, at_rest_law, floors_settle_law, floors_reach_law, floors_answered_law, bounded_law}
 use Rattle.fc_agreement.proofs.laws.agreement.Goals as goal
 
 pub returns-clause-agree : goal.returns-clause-agree
@@ -42,3 +42,6 @@ returns-clause-floors_settle c = floors_settle_law
 
 pub returns-clause-floors_reach : goal.returns-clause-floors_reach
 returns-clause-floors_reach c = floors_reach_law
+
+pub returns-clause-floors_answered : goal.returns-clause-floors_answered
+returns-clause-floors_answered c = floors_answered_law
