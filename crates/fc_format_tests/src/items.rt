@@ -1,6 +1,6 @@
-// Values that stand in the specification of the format, and calls that need memory.
-use crate::{Flags, Header, Ilv, Ilvs, TlvWriter, Tlvs, WireFault};
+// Headers, TLVs and ILVs that stand in the specification of the format.
 use fc_base::{Duplicate, Octets, WriteFault};
+use fc_wire::{Flags, Header, Ilv, Ilvs, TlvWriter, Tlvs, WireFault};
 use std::test::Fail;
 
 // The header of a heartbeat, and the query of one component with its answer, without their headers.
