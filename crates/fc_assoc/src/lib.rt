@@ -5,8 +5,6 @@
 mod associations;
 mod heard;
 mod silence;
-#[cfg(test)]
-mod tests;
 
 pub use associations::Associations;
 pub use heard::Heard;

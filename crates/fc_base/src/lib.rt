@@ -14,8 +14,6 @@ mod memory_ends;
 mod sink;
 mod source;
 mod std_ends;
-#[cfg(test)]
-mod tests;
 mod text;
 
 pub use boxed::Boxed;

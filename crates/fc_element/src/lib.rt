@@ -8,8 +8,6 @@ mod laws;
 mod replies;
 mod report;
 mod settings;
-#[cfg(test)]
-mod tests;
 
 pub use element::Element;
 pub use input::{ElIn, Out};

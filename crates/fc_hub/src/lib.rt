@@ -11,8 +11,6 @@ mod memory_hubs;
 mod patient;
 mod recording;
 mod tcp;
-#[cfg(test)]
-mod tests;
 
 pub use event::{Act, HubEvent};
 pub use hub::Hub;

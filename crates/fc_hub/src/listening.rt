@@ -8,8 +8,6 @@ use crate::link::{Found, finish, now, prepare, read_piece, send_all};
 use fc_base::{Memory, Text, Trouble};
 use std::alloc::Global;
 use std::io;
-#[cfg(test)]
-use std::net::SocketAddr;
 use std::net::{Net, OpenListener, OpenStream, Shutdown, TcpListener};
 use std::time::{Clock, Duration};
 
@@ -72,15 +70,6 @@ impl<R: Net + Clock + Drop> Listening<R> {
             closed: 0,
             latest: 0,
         })
-    }
-
-    /// The address that is bound, once one is.
-    #[cfg(test)]
-    pub fn bound(&self) -> Option<SocketAddr> {
-        match &self.listener {
-            Some(listener) => listener.local_addr().ok(),
-            None => None,
-        }
     }
 
     /// The next event. Before anything else it is the moment, where the last one was told a second ago.

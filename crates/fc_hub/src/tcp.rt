@@ -6,8 +6,6 @@ use crate::{Hub, HubEvent};
 use fc_base::{Memory, Trouble};
 use std::alloc::Global;
 use std::net::Net;
-#[cfg(test)]
-use std::net::SocketAddr;
 use std::time::Clock;
 
 /// A hub over TCP that serves one connection at a time.
@@ -48,12 +46,6 @@ impl<R: Net + Clock + Drop> TcpHub<R> {
             listening,
             faults: 0,
         })
-    }
-
-    /// The address that is bound, once one is.
-    #[cfg(test)]
-    pub fn bound(&self) -> Option<SocketAddr> {
-        self.listening.bound()
     }
 }
 

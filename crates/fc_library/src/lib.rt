@@ -9,8 +9,6 @@ mod keys;
 mod laws;
 mod names;
 mod refusals;
-#[cfg(test)]
-mod tests;
 mod types;
 
 pub use document::library_from_slice;

@@ -7,8 +7,6 @@ mod laws;
 mod mode;
 mod run;
 mod runner;
-#[cfg(test)]
-mod tests;
 
 pub use copying_map::{CopyMark, CopyingMap, EntryOp};
 pub use laws::done_is_what_is_kept;

@@ -8,8 +8,6 @@ mod fault;
 mod laws;
 mod message;
 mod splitter;
-#[cfg(test)]
-mod tests;
 
 pub use body::read_only_number;
 pub use decoding::{decode, headed};

@@ -12,8 +12,6 @@ mod read_path;
 mod read_select;
 mod results;
 mod stray;
-#[cfg(test)]
-mod tests;
 mod write;
 
 pub use fault::PathFault;

@@ -20,8 +20,6 @@ mod read_select;
 mod reading;
 mod tell_path;
 mod telling;
-#[cfg(test)]
-mod tests;
 mod values;
 mod words;
 

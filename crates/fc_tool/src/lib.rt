@@ -17,8 +17,6 @@ mod serve;
 mod show;
 mod status;
 mod stops;
-#[cfg(test)]
-mod tests;
 
 pub use command::run;
 pub use element::ElementEnd;

@@ -13,8 +13,6 @@ mod ids;
 mod laws;
 mod library;
 mod size;
-#[cfg(test)]
-mod tests;
 mod ty;
 mod type_rules;
 

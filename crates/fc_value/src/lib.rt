@@ -11,8 +11,6 @@ mod opening;
 mod parts;
 mod read;
 mod sparse;
-#[cfg(test)]
-mod tests;
 mod value;
 mod write;
 

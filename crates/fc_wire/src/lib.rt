@@ -6,8 +6,6 @@ mod header;
 mod ilvs;
 mod integers;
 mod laws;
-#[cfg(test)]
-mod tests;
 mod tlvs;
 mod types;
 mod writer;

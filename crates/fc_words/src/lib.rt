@@ -6,8 +6,6 @@ mod element;
 mod laws;
 mod positionals;
 mod reading;
-#[cfg(test)]
-mod tests;
 mod values;
 
 pub use commands::{Command, WordFault};

@@ -1,0 +1,119 @@
+// What the words of a command line mean.
+use fc_words::{Command, WordFault, command};
+use std::alloc::Global;
+use std::test::Fail;
+
+// The words of a line, which stand between single spaces.
+fn words(alloc: Global, line: &str) -> Result<Vec<String>, Fail> {
+    let mut words = Vec::new(alloc);
+    for word in line.split(' ') {
+        words.push(String::from_str(alloc, word)?)?;
+    }
+    Ok(words)
+}
+
+// The values of `element`: the two IDs, the two counts and the address.
+fn values(given: &Command) -> Option<([u32; 4], &str)> {
+    match given {
+        Command::Show | Command::Make => None,
+        Command::Element {
+            fe,
+            ce,
+            address,
+            connections,
+            turns,
+        } => Some(([fe.get(), ce.get(), *connections, *turns], address.as_str())),
+    }
+}
+
+// The command of a line.
+fn meant(alloc: Global, line: &str) -> Result<Option<Command>, Fail> {
+    let given = words(alloc, line)?;
+    match command(alloc, given.as_slice()) {
+        Ok(meant) => Ok(Some(meant)),
+        Err(WordFault::NoCommand) => Ok(None),
+        Err(_) => Err(Fail::from("memory")),
+    }
+}
+
+// Whether a line means an element with these values.
+fn means(alloc: Global, line: &str, numbers: [u32; 4], address: &str) -> Result<bool, Fail> {
+    match meant(alloc, line)? {
+        Some(meant) => Ok(values(&meant) == Some((numbers, address))),
+        None => Ok(false),
+    }
+}
+
+#[test]
+fn commands_have_their_values(rt: HostRuntime) -> Result<(), Fail> {
+    let alloc = rt.alloc();
+    assert!(rt; matches!(meant(alloc, "show")?, Some(Command::Show)));
+    assert!(rt; matches!(meant(alloc, "make")?, Some(Command::Make)));
+    let line = "element 7 4000000A 127.0.0.1:6704 1 200";
+    assert!(rt; means(alloc, line, [7, 0x4000_000a, 1, 200], "127.0.0.1:6704")?);
+    for (line, numbers, address) in [
+        ("element 1 40000001 a 2 3", [1, 0x4000_0001, 2, 3], "a"),
+        ("element 1 4000000a a 2 3", [1, 0x4000_000a, 2, 3], "a"),
+        (
+            "element 1073741823 7fffffFf = 4294967295 4294967294",
+            [0x3fff_ffff, 0x7fff_ffff, 0xffff_ffff, 0xffff_fffe],
+            "=",
+        ),
+    ] {
+        assert!(rt; means(alloc, line, numbers, address)?, "{line}");
+    }
+    Ok(())
+}
+
+// Lines that are no command; `$` stands for the end of each.
+const NO_COMMANDS: &str = "\
+$
+Show$
+show more$
+make more$
+make $
+MAKE$
+show $
+--help$
+show --help$
+-h$
+element$
+element 7 4000000A a 1$
+element 7 4000000A a 1 1 1$
+element 0 4000000A a 1 1$
+element 07 4000000A a 1 1$
+element +7 4000000A a 1 1$
+element 7x 4000000A a 1 1$
+element 1073741824 4000000A a 1 1$
+element 7 400000A a 1 1$
+element 7 04000000A a 1 1$
+element 7 +400000A a 1 1$
+element 7 4000000G a 1 1$
+element 7 3FFFFFFF a 1 1$
+element 7 80000001 a 1 1$
+element 7 40000100 a 1 1$
+element 7 4000000A  1 1$
+element 7 4000000A -a 1 1$
+element 7 4000000A - 1 1$
+element 7 4000000A a 0 1$
+element 7 4000000A a 1 0$
+element 7 4000000A a 01 1$
+element 7 4000000A a 1 01$
+element 7 4000000A a 1 1 $
+element 7 0x40000A a 1 1$
+element 7 4000000A a 1 1_0$
+element 7 4000000A a 4294967296 1$
+element 7 4000000A a 1 4294967296$
+element 7 4000000A a 1 -1$";
+
+#[test]
+fn other_words_are_no_command(rt: HostRuntime) -> Result<(), Fail> {
+    let alloc = rt.alloc();
+    let none: [String; 0] = [];
+    assert!(rt; matches!(command(alloc, &none), Err(WordFault::NoCommand)));
+    for row in NO_COMMANDS.lines() {
+        let line = row.strip_suffix("$").ok_or("an end")?;
+        assert!(rt; meant(alloc, line)?.is_none(), "{row}");
+    }
+    Ok(())
+}

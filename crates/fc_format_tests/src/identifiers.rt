@@ -1,0 +1,49 @@
+// The ranges of identifiers, the names of result codes and the digits of numbers.
+use fc_base::{CeId, Code, Epoch, FeId, TxnId, eight_digits, sixteen_digits};
+use std::test::Fail;
+
+#[test]
+fn identifiers_have_their_ranges(rt: HostRuntime) -> Result<(), Fail> {
+    for (n, is_element, is_controller) in [
+        (0u32, false, false),
+        (1, true, false),
+        (0x3fff_ffff, true, false),
+        (0x4000_0000, false, false),
+        (0x4000_0001, false, true),
+        (0x7fff_ff00, false, false),
+        (0x7fff_ffff, false, true),
+        (0x8000_0001, false, false),
+        (0xffff_fffd, false, false),
+    ] {
+        assert_eq!(rt; FeId::of(n).is_some(), is_element, "{n}");
+        assert_eq!(rt; CeId::of(n).is_some(), is_controller, "{n}");
+    }
+    let ce = CeId::of(0x4000_0001).ok_or("a controller")?;
+    assert_eq!(rt; ce.number(), 1);
+    assert_eq!(rt; Epoch::of(0, ce), None);
+    assert_eq!(rt; Epoch::of(16_777_216, ce), None);
+    let epoch = Epoch::of(1, ce).ok_or("an epoch")?;
+    assert_eq!(rt; epoch.get(), 257);
+    assert_eq!(rt; Epoch::from_word(257), Some(epoch));
+    assert_eq!(rt; Epoch::from_word(256), None);
+    assert_eq!(rt; Epoch::from_word(255), None);
+    assert_eq!(rt; TxnId::of(epoch, 0), None);
+    assert_eq!(rt; TxnId::of(epoch, 4).ok_or("a transaction")?.number, 4);
+    Ok(())
+}
+
+#[test]
+fn codes_have_names(rt: HostRuntime) -> Result<(), Fail> {
+    for (code, name) in [
+        (Code::SUCCESS, "SUCCESS"),
+        (Code::INVALID_PATH, "INVALID_PATH"),
+        (Code::INVALID_TLV, "INVALID_TLV"),
+        (Code::UNSPECIFIED_ERROR, "UNSPECIFIED_ERROR"),
+    ] {
+        assert_eq!(rt; code.name().ok_or("a name")?, name);
+    }
+    assert!(rt; Code(0x11).name().is_none());
+    assert_eq!(rt; eight_digits(0xff00_12ab), *b"FF0012AB");
+    assert_eq!(rt; sixteen_digits(0x0123_4567_89ab_cdef), *b"0123456789ABCDEF");
+    Ok(())
+}

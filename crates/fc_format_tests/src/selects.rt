@@ -1,0 +1,145 @@
+// Selects whose bytes stand in the specification of the format.
+use crate::digits::{bytes_of, numbered};
+use fc_base::{Duplicate, List, Memory, Octets};
+use fc_path::{Body, Leaf, OperKind, PathFault, Select, Step};
+use fc_wire::{TlvWriter, Tlvs};
+use std::alloc::Global;
+use std::test::Fail;
+
+// The select of the first TLV, which stands at 24 in a message of a type.
+pub(crate) fn read_select(alloc: Global, message: u8, bytes: &[u8]) -> Result<Select, PathFault> {
+    if bytes.len() % 4 != 0 || bytes.len() > 65_536 {
+        return Err(PathFault::Memory);
+    }
+    let mut tlvs = Tlvs::over(bytes, 24);
+    match tlvs.next() {
+        None => Err(PathFault::Memory),
+        Some(Err(fault)) => Err(PathFault::Wire(fault)),
+        Some(Ok(tlv)) => Select::read(alloc, &tlv, message),
+    }
+}
+
+// What is written of a select, or nothing where it is too long.
+fn written(alloc: Global, select: &Select) -> Vec<u8> {
+    let mut writer = TlvWriter::new(alloc);
+    match select.write(&mut writer) {
+        Ok(()) => writer.finish(),
+        Err(_) => Vec::new(alloc),
+    }
+}
+
+// Selects: the type of the message, and the bytes.
+const SELECTS: &str = "\
+03 10000024 0001F001 00000001 00010018 01100014 00000001 00000001 01120008 00000101
+13 10000024 0001F001 00000001 00030018 01100014 00000001 00000001 01140008 00000000
+03 1000002C 0001F001 00000001 0001001C 01100018 00000001 00000005 0112000C 00000101 00000001 000C0004
+13 10000030 0001F001 00000001 00030018 01100014 00000001 00000005 01140008 00000000 000D000C 01140008 00000000
+03 10000010 0001F001 00000001 000E0004
+04 1000001C 00000001 00000001 00070010 0110000C 00000001 00000007
+14 10000024 00000001 00000001 00090018 01100014 00000001 00000007 01120005 02000000
+03 1000002C 00000001 00000001 00020020 0110001C 00000001 00000007 01130010 00000002 0000000C 00000001
+03 1000002C 00001001 00000001 00050020 0110001C 80000001 00000004 01110010 00000001 01120008 65746830
+04 10000038 00001001 00000001 0008002C 01100028 00000001 00000001 0110000C 00000001 00000002 01100010 00000002 00000003 00000004
+05 10000028 00001001 00000001 000B001C 01100018 00000002 0000003C 00000001 01120008 00000065
+01 10000028 00001001 00000001 000B001C 01100018 00000002 0000003C 00000001 01120008 00000065
+13 10000024 00001001 00000001 00040018 01100014 00000001 00000001 01140008 15000000
+13 10000024 00001001 00000001 00060018 01100014 00000001 00000001 01140008 10000000
+14 10000038 00001001 00000001 000A002C 01100028 00000001 00000001 0113001C 00000001 00000009 FF000000 00000002 0000000B AABBCC00";
+
+#[test]
+fn selects_are_read_and_written(rt: HostRuntime) -> Result<(), Fail> {
+    let alloc = rt.alloc();
+    for row in SELECTS.lines() {
+        let (message, digits) = numbered(row)?;
+        let bytes = bytes_of(alloc, digits)?;
+        let select = read_select(alloc, message, &bytes).ok().ok_or("a select")?;
+        assert!(rt; select.copy()? == select, "{row}");
+        assert_eq!(rt;
+            written(alloc, &select).as_slice(),
+            bytes.as_slice(),
+            "{row}"
+        );
+    }
+    Ok(())
+}
+
+// Spellings of one select: the type of the message, the canonical one, and another.
+const SPELLINGS: &str = "\
+14 10000024 00000001 00000001 00090018 01100014 00000001 00000007 01120005 02000000 = 10000021 00000001 00000001 00090015 01100011 00000001 00000007 01120005 02FFFFFF
+04 10000018 00000001 00000001 0007000C 01100008 00000000 = 10000018 00000001 00000001 0007000C 01100006 7FFF0000
+04 10000018 00000001 00000001 0007000C 01100008 00000000 = 10000018 00000001 00000001 0007000C 01100005 7FFF0000
+04 10000018 00000001 00000001 0007000C 01100008 00000000 = 10000018 00000001 00000001 0007000C 01100007 7FFF0000
+13 10000024 00001001 00000001 00060018 01100014 00000001 00000001 01140008 10000000 = 10000024 00001001 00000001 00060018 01100014 00000001 00000001 01140008 10ABCDEF";
+
+#[test]
+fn free_bits_and_padding_are_read(rt: HostRuntime) -> Result<(), Fail> {
+    let alloc = rt.alloc();
+    for row in SPELLINGS.lines() {
+        let (message, digits) = numbered(row)?;
+        let (one, other) = digits.split_once(" = ").ok_or("a pair")?;
+        let first = read_select(alloc, message, &bytes_of(alloc, one)?);
+        let second = read_select(alloc, message, &bytes_of(alloc, other)?);
+        assert!(rt; first.is_ok(), "{row}");
+        assert!(rt; first == second, "{row}");
+    }
+    Ok(())
+}
+
+// The steps of IDs.
+fn steps_of(alloc: Global, ids: &[u32]) -> Result<List<Step>, Memory> {
+    let mut steps = List::new(alloc);
+    for id in ids {
+        steps.push(Step::Id(*id))?;
+    }
+    Ok(steps)
+}
+
+// The leaves of the select of digits.
+fn leaves_of(alloc: Global, message: u8, digits: &str) -> Result<List<Leaf>, Fail> {
+    let bytes = bytes_of(alloc, digits)?;
+    let select = read_select(alloc, message, &bytes).ok().ok_or("a select")?;
+    Ok(select.leaves()?)
+}
+
+// Whether a leaf is a GET-PROP at these IDs of instance 1 of class 1001.
+fn is_property(alloc: Global, leaf: &Leaf, ids: &[u32]) -> Result<bool, Memory> {
+    let steps = steps_of(alloc, ids)?;
+    Ok(
+        leaf.kind == OperKind::GetProp
+            && (leaf.spot.class, leaf.spot.instance) == (0x1001, 1)
+            && leaf.spot.steps == steps
+            && leaf.body == Body::Nothing,
+    )
+}
+
+const NESTED: &str =
+    "10000038 00001001 00000001 0008002C 01100028 00000001 00000001 0110000C 00000001 00000002 01100010 00000002 00000003 00000004";
+
+const KEYED: &str =
+    "1000002C 00001001 00000001 00050020 0110001C 80000001 00000004 01110010 00000001 01120008 65746830";
+
+#[test]
+fn leaves_have_the_steps_of_all_that_they_stand_in(rt: HostRuntime) -> Result<(), Fail> {
+    let alloc = rt.alloc();
+    let leaves = leaves_of(alloc, 4, NESTED)?;
+    assert_eq!(rt; leaves.len(), 2);
+    let wanted: [&[u32]; 2] = [&[1, 2], &[1, 3, 4]];
+    for (leaf, ids) in leaves.as_slice().iter().zip(wanted) {
+        assert!(rt; is_property(alloc, leaf, ids)?);
+    }
+    Ok(())
+}
+
+#[test]
+fn a_leaf_is_found_by_its_key(rt: HostRuntime) -> Result<(), Fail> {
+    let alloc = rt.alloc();
+    let leaves = leaves_of(alloc, 3, KEYED)?;
+    let mut steps = steps_of(alloc, &[4])?;
+    steps.push(Step::Key(1, Octets::from_slice(alloc, b"eth0")?))?;
+    assert_eq!(rt; leaves.len(), 1);
+    for leaf in leaves.as_slice() {
+        let leaf = leaf.copy()?;
+        assert!(rt; leaf.kind.copy()? == OperKind::Del && leaf.spot.steps == steps);
+    }
+    Ok(())
+}

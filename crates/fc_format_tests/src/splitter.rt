@@ -1,0 +1,49 @@
+// A splitter over a stream of heartbeats.
+use fc_base::SureSource;
+use fc_msg::Splitter;
+use std::alloc::{AllocError, Global};
+use std::test::Fail;
+
+const BEAT: [u8; 24] = [
+    0x10, 0x0f, 0, 6, 0x40, 0, 0, 1, 0, 0, 0, 2, 0, 0, 0, 0, 0, 0, 0, 0, 0, 0, 0, 0,
+];
+
+// Two heartbeats, one after the other.
+fn beats(alloc: Global) -> Result<Vec<u8>, AllocError> {
+    let mut bytes = Vec::new(alloc);
+    bytes.extend_from_slice(&BEAT)?;
+    bytes.extend_from_slice(&BEAT)?;
+    Ok(bytes)
+}
+
+#[test]
+fn a_splitter_lends_the_frames_of_the_stream(rt: HostRuntime) -> Result<(), Fail> {
+    let alloc = rt.alloc();
+    let mut splitter = Splitter::new(alloc);
+    assert!(rt; splitter.next().is_none());
+    let bytes = beats(alloc)?;
+    assert_eq!(rt; bytes.len(), 48);
+    splitter.feed(&bytes[..23])?;
+    assert!(rt; splitter.next().is_none());
+    assert_eq!(rt; splitter.rest().len(), 23);
+    splitter.feed(&bytes[23..47])?;
+    assert_eq!(rt; splitter.next().ok_or("a frame")?, BEAT.as_slice());
+    assert!(rt; splitter.next().is_none());
+    splitter.feed(&bytes[47..])?;
+    assert_eq!(rt; splitter.next().ok_or("a frame")?, BEAT.as_slice());
+    assert_eq!(rt; splitter.rest().len(), 0);
+    Ok(())
+}
+
+#[test]
+fn a_splitter_reads_no_more_than_it_is_to_read(rt: HostRuntime) -> Result<(), Fail> {
+    let alloc = rt.alloc();
+    let mut input = SureSource::new(beats(alloc)?, 40);
+    let mut splitter = Splitter::new(alloc);
+    let given = splitter.feed_from(&mut input, 30).ok().ok_or("bytes")?;
+    assert_eq!(rt; given, 30);
+    assert_eq!(rt; splitter.rest().len(), 30);
+    assert_eq!(rt; splitter.next().ok_or("a frame")?, BEAT.as_slice());
+    assert_eq!(rt; splitter.rest(), &BEAT[..6]);
+    Ok(())
+}

@@ -1,0 +1,20 @@
+// Documents, with the library or the line that comes of each.
+mod accepted;
+mod checks;
+mod keys;
+mod kinds;
+mod port;
+mod refused;
+
+use fc_library::{LibFault, library_from_slice, refusal};
+use std::alloc::Global;
+use std::test::Fail;
+
+// The line that a document is refused with, or `accepted`.
+pub(crate) fn line(alloc: Global, document: &[u8]) -> Result<Vec<u8>, Fail> {
+    match library_from_slice(alloc, document) {
+        Ok(_) => Ok(Vec::from_slice(alloc, "accepted\n".as_bytes())?),
+        Err(LibFault::Memory) => Err(Fail::from("memory")),
+        Err(fault) => Ok(refusal(alloc, "library", &fault).ok().ok_or("memory")?),
+    }
+}
