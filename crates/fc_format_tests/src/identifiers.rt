@@ -1,5 +1,8 @@
 // The ranges of identifiers, the names of result codes and the digits of numbers.
-use fc_base::{CeId, Code, Epoch, FeId, TxnId, eight_digits, sixteen_digits};
+use fc_base::{
+    CeId, Code, Epoch, FeId, TxnId, digits_of_eight, digits_of_four, eight_digits, push_hex,
+    sixteen_digits, two_digits,
+};
 use std::test::Fail;
 
 #[test]
@@ -45,5 +48,28 @@ fn codes_have_names(rt: HostRuntime) -> Result<(), Fail> {
     assert!(rt; Code(0x11).name().is_none());
     assert_eq!(rt; eight_digits(0xff00_12ab), *b"FF0012AB");
     assert_eq!(rt; sixteen_digits(0x0123_4567_89ab_cdef), *b"0123456789ABCDEF");
+    Ok(())
+}
+
+#[test]
+fn transactions_print_their_epoch_and_number(rt: HostRuntime) -> Result<(), Fail> {
+    let epoch = Epoch::from_word(0xffff_ffff).ok_or("an epoch")?;
+    let txn = TxnId::of(epoch, 4).ok_or("a transaction")?;
+    let text = format!(in rt.alloc(); "{txn}")?;
+    assert_eq!(rt; text.as_str(), "4294967295.4");
+    Ok(())
+}
+
+#[test]
+fn bytes_have_two_digits_each(rt: HostRuntime) -> Result<(), Fail> {
+    assert_eq!(rt; two_digits(0xa5), *b"A5");
+    assert_eq!(rt; digits_of_four(&[0, 0x1f, 0xf1, 0xff]), *b"001FF1FF");
+    assert_eq!(rt; digits_of_eight(b"abcdefgh"), *b"6162636465666768");
+    let mut text = Vec::from_slice(rt.alloc(), b"hex ")?;
+    push_hex(&mut text, b"abcdefghijklm")?;
+    assert_eq!(rt;
+        text.as_slice(),
+        b"hex 6162636465666768696A6B6C6D".as_slice()
+    );
     Ok(())
 }

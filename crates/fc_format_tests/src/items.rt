@@ -1,6 +1,6 @@
 // Headers, TLVs and ILVs that stand in the specification of the format.
 use fc_base::{Duplicate, Octets, WriteFault};
-use fc_wire::{Flags, Header, Ilv, Ilvs, TlvWriter, Tlvs, WireFault};
+use fc_wire::{Flags, Header, Ilv, Ilvs, TlvWriter, Tlvs, WireFault, push_padding};
 use std::test::Fail;
 
 // The header of a heartbeat, and the query of one component with its answer, without their headers.
@@ -173,5 +173,23 @@ fn the_longest_tlv_is_written_and_a_longer_one_refused(rt: HostRuntime) -> Resul
     for (at, want) in [(3, 0xff), (4, 1), (65535, 0), (65536, 1), (65539, 0)] {
         assert_eq!(rt; bytes.get(at).copied(), Some(want), "at {at}");
     }
+    Ok(())
+}
+
+#[test]
+fn numbers_and_padding_are_put(rt: HostRuntime) -> Result<(), Fail> {
+    let alloc = rt.alloc();
+    let mut writer = TlvWriter::new(alloc);
+    writer.put_u16(0x0112)?;
+    writer.put_u32(0x4000_0001)?;
+    writer.put_padding(5)?;
+    assert_eq!(rt;
+        writer.as_slice(),
+        [1u8, 0x12, 0x40, 0, 0, 1, 0, 0, 0].as_slice()
+    );
+    let mut bytes = Vec::from_slice(alloc, b"ab")?;
+    push_padding(&mut bytes, 2)?;
+    push_padding(&mut bytes, 4)?;
+    assert_eq!(rt; bytes.as_slice(), [b'a', b'b', 0, 0].as_slice());
     Ok(())
 }
