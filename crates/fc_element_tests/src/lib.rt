@@ -4,6 +4,8 @@
 #[cfg(test)]
 mod fence;
 #[cfg(test)]
+mod limits;
+#[cfg(test)]
 mod makers;
 #[cfg(test)]
 mod records;
