@@ -13,6 +13,8 @@ mod fence;
 #[cfg(test)]
 mod hubs;
 #[cfg(test)]
+mod limits;
+#[cfg(test)]
 mod links;
 #[cfg(test)]
 mod makers;

@@ -5,7 +5,7 @@ use std::io::ErrorKind;
 
 /// Why no connection was accepted.
 #[derive(Clone, Copy, Debug, PartialEq, Eq)]
-pub enum Missed {
+pub(crate) enum Missed {
     /// None waits.
     NoneWaits,
     /// The one that waited failed, by its peer or by the network.
@@ -30,7 +30,7 @@ const NOT_A_SOCKET: i32 = 88;
 const NOT_SUPPORTED: i32 = 95;
 
 /// What an error of accepting says. What the system tells of a connection that waits is no failure of the listener.
-pub fn why_missed(error: &io::Error) -> Missed {
+pub(crate) fn why_missed(error: &io::Error) -> Missed {
     if matches!(error.kind(), ErrorKind::WouldBlock | ErrorKind::Interrupted) {
         return Missed::NoneWaits;
     }

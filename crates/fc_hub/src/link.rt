@@ -22,7 +22,7 @@ const PIECE: usize = 4096;
 
 /// What a read of a connection finds.
 #[derive(Drop)]
-pub enum Found {
+pub(crate) enum Found {
     /// Bytes, at least one.
     Piece(Octets),
     /// Nothing came for a second.
@@ -32,7 +32,7 @@ pub enum Found {
 }
 
 /// The time of the machine's monotonic clock, in milliseconds.
-pub fn now<R: Clock>(rt: &R) -> Result<u64, Trouble> {
+pub(crate) fn now<R: Clock>(rt: &R) -> Result<u64, Trouble> {
     match rt.monotonic() {
         Ok(now) => Ok(u64::try_from(now.as_millis()).unwrap_or(u64::MAX)),
         Err(_) => Err(Trouble::Failed),
@@ -40,14 +40,14 @@ pub fn now<R: Clock>(rt: &R) -> Result<u64, Trouble> {
 }
 
 /// Asks for the waits of a connection, and for no delay of small messages.
-pub fn prepare<S: OpenStream>(stream: &S) -> io::Result<()> {
+pub(crate) fn prepare<S: OpenStream>(stream: &S) -> io::Result<()> {
     stream.set_read_timeout(Some(Duration::from_secs(READ_SECONDS)))?;
     stream.set_write_timeout(Some(Duration::from_millis(WRITE_MILLISECONDS)))?;
     stream.set_nodelay(true)
 }
 
 /// Waits for bytes of a connection, for a second at most. Whatever else the connection tells, it is its end.
-pub fn read_piece<S: Read>(alloc: Global, stream: &mut S) -> Result<Found, Memory>
+pub(crate) fn read_piece<S: Read>(alloc: Global, stream: &mut S) -> Result<Found, Memory>
     ensures { IfOk result IsFound }
 {
     let mut bytes = Vec::from_elem(alloc, 0u8, PIECE)?;
@@ -63,7 +63,11 @@ pub fn read_piece<S: Read>(alloc: Global, stream: &mut S) -> Result<Found, Memor
 }
 
 /// Sends bytes, and says whether the peer took them all within ten seconds.
-pub fn send_all<R: Clock, S: Write>(rt: &R, stream: &mut S, bytes: &[u8]) -> Result<bool, Trouble> {
+pub(crate) fn send_all<R: Clock, S: Write>(
+    rt: &R,
+    stream: &mut S,
+    bytes: &[u8],
+) -> Result<bool, Trouble> {
     let end = now(rt)?.saturating_add(SEND_MILLISECONDS);
     let mut rest = bytes;
     for _ in 0..u64::MAX {
@@ -85,7 +89,7 @@ pub fn send_all<R: Clock, S: Write>(rt: &R, stream: &mut S, bytes: &[u8]) -> Res
 
 /// Tells the peer that nothing more is sent, and reads for a moment what it still sends: a connection that is let go with
 /// bytes unread takes with it what was sent last.
-pub fn finish<R: Clock, S: Read + OpenStream>(rt: &R, stream: &mut S) {
+pub(crate) fn finish<R: Clock, S: Read + OpenStream>(rt: &R, stream: &mut S) {
     if stream.shutdown(Shutdown::Write).is_err() {
         return;
     }

@@ -1,5 +1,5 @@
 // Keys of entries.
-ghost use Rattle.std.specs.Prelude.{◌≡◌, ◌++◌, map, option_map, IfOk, OnOk};
+ghost use Rattle.std.specs.Prelude.{◌≡◌, ◌++◌, ◌∷◌, map, option_map, IfOk, OnOk};
 ghost use Rattle.fc_value.specs.Keys as spec;
 ghost use Rattle.fc_value.specs.Writing.{full_bytes, inside_bytes};
 
@@ -101,6 +101,46 @@ pub fn key_value(
     Ok(bytes)
 }
 
+// Whether these bytes are below the value that a key has in the first of the entries, and that in each entry below that in the
+// next one.
+fn rise_from(
+    alloc: Global,
+    fields: &[Field],
+    key: &KeyDecl,
+    first: Vec<u8>,
+    entries: &[(u32, Value)],
+) -> Result<bool, Memory>
+    ensures { IfOk result (λ b. b ≡ spec.is_rising (first.items ∷ spec.key_values fields.now key.now entries.now)) }
+{
+    let mut last = first;
+    for (_, entry) in entries {
+        let value = key_value(alloc, fields, key, entry)?;
+        if !last.cmp(&value).is_lt() {
+            return Ok(false);
+        }
+        last = value;
+    }
+    Ok(true)
+}
+
+// Whether the value that a key has in each entry is below that in the next one. It holds two of the values at once.
+fn keys_rise(
+    alloc: Global,
+    fields: &[Field],
+    key: &KeyDecl,
+    entries: &[(u32, Value)],
+) -> Result<bool, Memory>
+    ensures { IfOk result (λ b. b ≡ spec.is_rising (spec.key_values fields.now key.now entries.now)) }
+{
+    match entries {
+        [] => Ok(true),
+        [(_, entry), others @ ..] => {
+            let first = key_value(alloc, fields, key, entry)?;
+            rise_from(alloc, fields, key, first, others)
+        }
+    }
+}
+
 // The values that a key has in the entries.
 fn key_values(
     alloc: Global,
@@ -141,7 +181,7 @@ fn are_rising(values: &[Vec<u8>]) -> bool
     true
 }
 
-// Whether no two entries have the same value of a key.
+// Whether no two entries have the same value of a key. Only values that do not rise are sorted.
 fn differ_in(
     alloc: Global,
     fields: &[Field],
@@ -150,6 +190,9 @@ fn differ_in(
 ) -> Result<bool, Memory>
     ensures { IfOk result (λ b. b ≡ spec.differ_in fields.now entries.now key.now) }
 {
+    if keys_rise(alloc, fields, key, entries)? {
+        return Ok(true);
+    }
     let mut values = key_values(alloc, fields, key, entries)?;
     values.sort()?;
     Ok(are_rising(&values))

@@ -1,8 +1,11 @@
-use Rattle.std.proofs.Common.{◌∙◌, ap, map, bytes_eq}
+use Rattle.std.proofs.Common.{◌∙◌, ap, map, sym, bytes_eq}
 use Rattle.fc_types.specs.Ids.{is_distinct}
-use Rattle.fc_value.specs.Keys.{is_rising}
-use Rattle.fc_value.proofs.Rising.{sorted_rises}
+use Rattle.fc_value.specs.Keys.{is_rising, key_values}
+use Rattle.fc_value.proofs.Rising.{rising_distinct, sorted_rises}
 use Rattle.fc_value.proofs.key.differ_in.Goals as goal
+
+pub returns-then-branch : goal.returns-then-branch
+returns-then-branch c = sym (rising_distinct (key_values c.args.fields.now c.args.key.now c.args.entries.now) (sym c.in_ok-keys_rise.ensures ∙ c.if-branch.true))
 
 pub returns : goal.returns
 returns c =
