@@ -94,3 +94,27 @@ fn room_is_made_for_so_many_pairs(rt: HostRuntime) -> Result<(), Fail> {
     assert_eq!(rt; index.find(b"none"), None);
     Ok(())
 }
+
+// Enters all pairs into the room that was made for them. Gives how many found it.
+fn entered(alloc: Global, index: &mut KeyIndex) -> Result<u32, Memory> {
+    let mut count = 0u32;
+    for place in 0..MANY {
+        let key = key(alloc, Order::Scattered, place)?;
+        if index.spare() > 0 && index.insert_spare(key, place) {
+            count = count.wrapping_add(1);
+        }
+    }
+    Ok(count)
+}
+
+#[test]
+fn room_for_a_full_index_is_made_at_once(rt: HostRuntime) -> Result<(), Fail> {
+    let alloc = rt.alloc();
+    let mut index = KeyIndex::new(alloc);
+    index.reserve(65_536)?;
+    assert_eq!(rt; index.spare(), 65_536);
+    assert_eq!(rt; entered(alloc, &mut index)?, MANY);
+    assert_eq!(rt; index.spare(), 0);
+    assert_eq!(rt; found(&index, Order::Scattered), MANY);
+    Ok(())
+}
