@@ -2,7 +2,6 @@ pub mod Acts
 pub mod Bytes
 pub mod Commands
 pub mod Cut
-pub mod Distinct
 pub mod Ending
 pub mod Hearing
 pub mod Judged
@@ -13,6 +12,7 @@ pub mod Outcomes
 pub mod Pieces
 pub mod Reaching
 pub mod Runs
+pub mod RunsAlike
 pub mod Serving
 pub mod Shows
 pub mod Texts

@@ -15,7 +15,7 @@ read_twice limit bytes one two l k (consumed, end, le) (read, finish, short) = s
 either_means : (bytes : List ℕ) → MeansLibrary bytes → MeansNone bytes → ⊥
 either_means bytes (given, is) (fault, refused) = let same = sym is ∙ refused in cc same
 
-library_or_none : (limit : ℕ) (bytes one two : List ℕ) (l k : Option (List ℕ)) → LookEnds limit (Ok look.Whole) one (Some bytes) l → LookEnds limit (Ok look.Whole) two (Some bytes) k
+pub library_or_none : (limit : ℕ) (bytes one two : List ℕ) (l k : Option (List ℕ)) → LookEnds limit (Ok look.Whole) one (Some bytes) l → LookEnds limit (Ok look.Whole) two (Some bytes) k
     → MeansLibrary one → MeansNone two → ⊥
 library_or_none limit bytes one two l k read other means none = either_means two (subst MeansLibrary (read_twice limit bytes one two l k read other) means) none
 

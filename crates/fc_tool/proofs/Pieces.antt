@@ -1,28 +1,29 @@
 -- Bytes that come in two pieces: the frames of both, what they make of an element, and of a node.
-use Rattle.std.proofs.Common.{◌≡◌, ◌≤◌, ◌<◌, ℕ, zero, suc, ◌==◌, List, [], ◌∷◌, ◌++◌, length, take, drop, Bool, true, false, if◌then◌else◌, refl, sym, subst, ap, ◌∙◌, arith, inl, inr, append_assoc, append-nil, length-append, Option, Some, None}
+use Rattle.std.proofs.Common.{◌≡◌, ◌≤◌, ◌<◌, ℕ, zero, suc, List, [], ◌∷◌, ◌++◌, length, take, drop, Bool, true, false, if◌then◌else◌, refl, sym, subst, ap, ◌∙◌, arith, inl, inr, append_assoc, append-nil, length-append, Option, Some, None}
 use Rattle.std.proofs.lemmas.Bool.{cases_lt}
-use Rattle.std.proofs.lemmas.Bool.Decides.{nat_tests}
 use Rattle.std.proofs.lemmas.List.{length-drop, take-append-drop, take-append-le, drop-append-le, get_or_append_left}
+use Rattle.std.specs.FinMap.{get, insert, remove}
 use Rattle.fc_wire.specs.Frames.{Frames, frame_len, joined}
 use Rattle.fc_wire.proofs.Cutting.{cut_frame}
 use Rattle.fc_hub.specs.declared.event.HubEvent.TheVariants as event
 use Rattle.fc_hub.specs.declared.event.Act.{Act}
 use Rattle.fc_msg.specs.declared.message.Message.{Message}
 use Rattle.fc_msg.specs.Reading.{message_in}
+use Rattle.fc_msg.specs.Splitting.{Split}
 use Rattle.fc_element.specs.declared.input.ElIn.TheVariants.{Arrived}
 use Rattle.fc_element.specs.ElementMachine.{Turn, step}
 use Rattle.fc_element.specs.ElementState.{ElementState}
-use Rattle.fc_tool.specs.declared.peers.Peer.{Peer}
-use Rattle.fc_tool.specs.ElementNode.{Heard, Move, NodeState, Cut, after_heard, by_message, cut, cut_of, first_heard, frames, heard, hears, in_front, left_of, move, node, node_step, on_bytes, put_left, rest, sent, without}
-use Rattle.fc_tool.specs.Places.{AreDistinct, StandsNowhere}
+use Rattle.fc_tool.specs.ElementNode.{Heard, Move, NodeState, after_heard, by_message, first_heard, heard, hears, move, node, node_step, on_bytes, sent}
+use Rattle.fc_tool.specs.OpenPeers.{PeerMap}
+use Rattle.fc_tool.specs.Streams.{cut_of, frames, rest}
 use Rattle.fc_tool.specs.Pieces.{AreAlike}
-use Rattle.fc_tool.proofs.Cut.{cut_partial, cut_whole}
-use Rattle.fc_tool.proofs.OpenPeers.{left_nowhere, put_twice, without_put}
+use Rattle.fc_tool.proofs.Cut.{cut, cut_partial, cut_whole, in_front}
+use Rattle.fc_tool.proofs.OpenPeers.{gone_put, got_gone, got_put, put_twice}
 
 -- ---- the frames
 
 short_front : (front back : List ℕ) → length front < frame_len front → cut_of (front ++ back) ≡ cut (frames front ++ frames (rest front ++ back)) (rest (rest front ++ back))
-short_front front back lt = sym (ap (λ c. cut (c.frames ++ frames (c.rest ++ back)) (rest (c.rest ++ back))) (cut_partial front lt))
+short_front front back lt = sym (ap (λ c. cut (c.taken ++ frames (c.rest ++ back)) (rest (c.rest ++ back))) (cut_partial front lt))
 
 cut_go : (fuel : ℕ) (front back : List ℕ) → length front ≤ fuel → cut_of (front ++ back) ≡ cut (frames front ++ frames (rest front ++ back)) (rest (rest front ++ back))
 cut_go zero front back le = let lt : length front < frame_len front = omega arith in short_front front back lt
@@ -40,7 +41,7 @@ cut_go (suc fuel) front back le =
           ∙ ap (λ f. in_front f (cut_of (drop n (front ++ back)))) (take-append-le n front back whole)
           ∙ ap (λ t. in_front (take n front) (cut_of t)) (drop-append-le n front back whole)
           ∙ ap (in_front (take n front)) more
-          ∙ sym (ap (λ c. cut (c.frames ++ frames (c.rest ++ back)) (rest (c.rest ++ back))) (cut_whole front whole))
+          ∙ sym (ap (λ c. cut (c.taken ++ frames (c.rest ++ back)) (rest (c.rest ++ back))) (cut_whole front whole))
     ]
 
 cut_on : (front back : List ℕ) → cut_of (front ++ back) ≡ cut (frames front ++ frames (rest front ++ back)) (rest (rest front ++ back))
@@ -69,48 +70,21 @@ hears_on : (fs gs : List (List ℕ)) (e : ElementState) (peer : ℕ) → hears e
 hears_on [] gs e peer = refl
 hears_on (f ∷ fs) gs e peer = hears_by (message_in f) e peer fs gs (λ next. hears_on fs gs next peer)
 
--- ---- the peers
-
-equal : (n : ℕ) → (n == n) ≡ true
-equal n = grind (arith, nat_tests)
-
-is_equal : (m n : ℕ) → (m == n) ≡ true → m ≡ n
-is_equal m n is = grind (arith, nat_tests)
-
-left_by : (b : Bool) (p : Peer) (ps : List Peer) (peer : ℕ) (old left : List ℕ) → (p.number == peer) ≡ b
-    → (left_of peer ps ≡ Some old → left_of peer (put_left peer left ps) ≡ Some left) → left_of peer (p ∷ ps) ≡ Some old
-    → left_of peer (put_left peer left (p ∷ ps)) ≡ Some left
-left_by true p ps peer old left is more some = rw (is, equal peer) refl
-left_by false p ps peer old left is more some = rw (is, is) (more (rw is at some))
-
-left_put : (peers : List Peer) (peer : ℕ) (old left : List ℕ) → left_of peer peers ≡ Some old → left_of peer (put_left peer left peers) ≡ Some left
-left_put [] peer old left some = absurd (cc some)
-left_put (p ∷ ps) peer old left some = left_by (p.number == peer) p ps peer old left refl (λ there. left_put ps peer old left there) some
-
-gone_by : (b : Bool) (p : Peer) (ps : List Peer) (peer : ℕ) → (p.number == peer) ≡ b → StandsNowhere ps p.number
-    → left_of peer (without peer ps) ≡ None → left_of peer (without peer (p ∷ ps)) ≡ None
-gone_by true p ps peer is none more = let same = is_equal p.number peer is in rw is (left_nowhere ps peer (rw same at none))
-gone_by false p ps peer is none more = rw (is, is) more
-
-left_gone : (peers : List Peer) (peer : ℕ) → AreDistinct peers → left_of peer (without peer peers) ≡ None
-left_gone [] peer distinct = refl
-left_gone (p ∷ ps) peer distinct = gone_by (p.number == peer) p ps peer refl distinct.0 (left_gone ps peer distinct.1)
-
 -- ---- the node
 
-alike_stay : (h later : Heard) (peer : ℕ) (r last : List ℕ) (peers : List Peer) → h.stays ≡ true
-    → AreAlike (after_heard h peer r peers) (after_heard later peer last (put_left peer r peers))
+alike_stay : (h later : Heard) (peer : ℕ) (r last : List ℕ) (peers : PeerMap) → h.stays ≡ true
+    → AreAlike (after_heard h peer r peers) (after_heard later peer last (insert peers peer r))
     (after_heard (heard later.element (h.acts ++ later.acts) later.stays) peer last peers)
-alike_stay h later peer r last peers stays = record { state = rw (put_twice peers peer r last, without_put peers peer r) refl; acts = refl }
+alike_stay h later peer r last peers stays = record { state = rw (put_twice peers peer r last, gone_put peers peer r) refl; acts = refl }
 
-alike_gone : (h : Heard) (peer : ℕ) (r last : List ℕ) (peers : List Peer) → h.stays ≡ false
-    → AreAlike (after_heard h peer r peers) (move (node h.element (without peer peers)) []) (after_heard h peer last peers)
+alike_gone : (h : Heard) (peer : ℕ) (r last : List ℕ) (peers : PeerMap) → h.stays ≡ false
+    → AreAlike (after_heard h peer r peers) (move (node h.element (remove peers peer)) []) (after_heard h peer last peers)
 alike_gone h peer r last peers gone = record { state = rw gone refl; acts = append-nil h.acts }
 
 alike_at : (first second second' whole whole' : Move) → second ≡ second' → whole ≡ whole' → AreAlike first second' whole' → AreAlike first second whole
 alike_at first second second' whole whole' is are alike = rw (is, are) alike
 
-bytes_end : (b : Bool) (n : NodeState) (peer : ℕ) (left front back : List ℕ) → left_of peer n.peers ≡ Some left → AreDistinct n.peers
+bytes_end : (b : Bool) (n : NodeState) (peer : ℕ) (left front back : List ℕ) → get n.peers peer ≡ Some left
     → (hears n.element peer (frames (left ++ front))).stays ≡ b
     → on_bytes n peer (front ++ back) (Some left)
     ≡ after_heard
@@ -118,49 +92,49 @@ bytes_end : (b : Bool) (n : NodeState) (peer : ℕ) (left front back : List ℕ)
     else hears n.element peer (frames (left ++ front)))
     peer (rest (rest (left ++ front) ++ back)) n.peers
     → node_step (on_bytes n peer front (Some left)).state (event.Bytes peer back)
-    ≡ node_step (node (hears n.element peer (frames (left ++ front))).element (if b then put_left peer (rest (left ++ front)) n.peers else without peer n.peers)) (event.Bytes peer back)
+    ≡ node_step (node (hears n.element peer (frames (left ++ front))).element (if b then insert n.peers peer (rest (left ++ front)) else remove n.peers peer)) (event.Bytes peer back)
     → AreAlike (on_bytes n peer front (Some left)) (node_step (on_bytes n peer front (Some left)).state (event.Bytes peer back)) (on_bytes n peer (front ++ back) (Some left))
-bytes_end true n peer left front back some distinct stays both second =
+bytes_end true n peer left front back some stays both second =
     let h = hears n.element peer (frames (left ++ front)) in
     let r = rest (left ++ front) in
-    let opened = second ∙ ap (λ o. on_bytes (node h.element (put_left peer r n.peers)) peer back o) (left_put n.peers peer left r some) in
+    let opened = second ∙ ap (λ o. on_bytes (node h.element (insert n.peers peer r)) peer back o) (got_put n.peers peer r) in
     alike_at _ _ _ _ _ opened both (alike_stay h (hears h.element peer (frames (r ++ back))) peer r (rest (r ++ back)) n.peers stays)
-bytes_end false n peer left front back some distinct stays both second =
+bytes_end false n peer left front back some stays both second =
     let h = hears n.element peer (frames (left ++ front)) in
     let r = rest (left ++ front) in
-    let closed = second ∙ ap (λ o. on_bytes (node h.element (without peer n.peers)) peer back o) (left_gone n.peers peer distinct) in
+    let closed = second ∙ ap (λ o. on_bytes (node h.element (remove n.peers peer)) peer back o) (got_gone n.peers peer) in
     alike_at _ _ _ _ _ closed both (alike_gone h peer r (rest (r ++ back)) n.peers stays)
 
-bytes_by : (b : Bool) (n : NodeState) (peer : ℕ) (left front back : List ℕ) → left_of peer n.peers ≡ Some left → AreDistinct n.peers
+bytes_by : (b : Bool) (n : NodeState) (peer : ℕ) (left front back : List ℕ) → get n.peers peer ≡ Some left
     → (hears n.element peer (frames (left ++ front))).stays ≡ b
     → AreAlike (on_bytes n peer front (Some left)) (node_step (on_bytes n peer front (Some left)).state (event.Bytes peer back)) (on_bytes n peer (front ++ back) (Some left))
-bytes_by b n peer left front back some distinct stays =
+bytes_by b n peer left front back some stays =
     let h = hears n.element peer (frames (left ++ front)) in
     let r = rest (left ++ front) in
     let later = hears h.element peer (frames (r ++ back)) in
     let last = rest (r ++ back) in
     let both : on_bytes n peer (front ++ back) (Some left) ≡ after_heard (if b then heard later.element (h.acts ++ later.acts) later.stays else h) peer last n.peers =
-    ap (λ c. after_heard (hears n.element peer c.frames) peer c.rest n.peers) (ap cut_of (sym (append_assoc left front back)) ∙ cut_on (left ++ front) back)
+    ap (λ c. after_heard (hears n.element peer c.taken) peer c.rest n.peers) (ap cut_of (sym (append_assoc left front back)) ∙ cut_on (left ++ front) back)
     ∙ ap (λ x. after_heard x peer last n.peers)
     (hears_on (frames (left ++ front)) (frames (r ++ back)) n.element peer ∙ ap (λ b. if b then heard later.element (h.acts ++ later.acts) later.stays else h) stays) in
     let second : node_step (on_bytes n peer front (Some left)).state (event.Bytes peer back)
-    ≡ node_step (node h.element (if b then put_left peer r n.peers else without peer n.peers)) (event.Bytes peer back) =
-    ap (λ b. node_step (node h.element (if b then put_left peer r n.peers else without peer n.peers)) (event.Bytes peer back)) stays in
-    bytes_end b n peer left front back some distinct stays both second
+    ≡ node_step (node h.element (if b then insert n.peers peer r else remove n.peers peer)) (event.Bytes peer back) =
+    ap (λ b. node_step (node h.element (if b then insert n.peers peer r else remove n.peers peer)) (event.Bytes peer back)) stays in
+    bytes_end b n peer left front back some stays both second
 
-alike_by : (o : Option (List ℕ)) (n : NodeState) (peer : ℕ) (front back : List ℕ) → left_of peer n.peers ≡ o → AreDistinct n.peers
+alike_by : (o : Option (List ℕ)) (n : NodeState) (peer : ℕ) (front back : List ℕ) → get n.peers peer ≡ o
     → AreAlike (on_bytes n peer front o) (node_step (on_bytes n peer front o).state (event.Bytes peer back)) (on_bytes n peer (front ++ back) o)
-alike_by None n peer front back is distinct = record { state = rw is refl; acts = rw is refl }
-alike_by (Some left) n peer front back is distinct = bytes_by (hears n.element peer (frames (left ++ front))).stays n peer left front back is distinct refl
+alike_by None n peer front back is = record { state = rw is refl; acts = rw is refl }
+alike_by (Some left) n peer front back is = bytes_by (hears n.element peer (frames (left ++ front))).stays n peer left front back is refl
 
-pub bytes_alike : (n : NodeState) (peer : ℕ) (front back : List ℕ) → AreDistinct n.peers
+pub bytes_alike : (n : NodeState) (peer : ℕ) (front back : List ℕ)
     → AreAlike (node_step n (event.Bytes peer front)) (node_step (node_step n (event.Bytes peer front)).state (event.Bytes peer back)) (node_step n (event.Bytes peer (front ++ back)))
-bytes_alike n peer front back distinct = alike_by (left_of peer n.peers) n peer front back refl distinct
+bytes_alike n peer front back = alike_by (get n.peers peer) n peer front back refl
 
 -- ---- the frames are those of the stream
 
-cut_at : (bytes : List ℕ) (c : Cut) → cut_of bytes ≡ c → Frames bytes c.frames c.rest → Frames bytes (frames bytes) (rest bytes)
-cut_at bytes c is there = subst (λ c. Frames bytes c.frames c.rest) (sym is) there
+cut_at : (bytes : List ℕ) (c : Split) → cut_of bytes ≡ c → Frames bytes c.taken c.rest → Frames bytes (frames bytes) (rest bytes)
+cut_at bytes c is there = subst (λ c. Frames bytes c.taken c.rest) (sym is) there
 
 cut_frames : (fuel : ℕ) (bytes : List ℕ) → length bytes ≤ fuel → Frames bytes (frames bytes) (rest bytes)
 cut_frames zero bytes le = let lt : length bytes < frame_len bytes = omega arith in cut_at bytes _ (cut_partial bytes lt) (record { whole = refl; each = tt; partial = lt })

@@ -6,7 +6,6 @@ use Rattle.fc_hub.specs.declared.event.HubEvent.TheVariants.{Bytes}
 use Rattle.fc_hub.specs.declared.event.Act.{Act}
 use Rattle.fc_tool.specs.ElementNode.{Move, NodeState, acts_of, first_node, node_after, node_step, numbered}
 use Rattle.fc_tool.specs.Pieces.{AreAlike, MakeTheSame, unnumbered}
-use Rattle.fc_tool.proofs.Distinct.{are_distinct}
 use Rattle.fc_tool.proofs.Pieces.{bytes_alike}
 
 -- the acts of all events, without numbers
@@ -60,6 +59,6 @@ run_alike id ce before after peer front back =
     let one = node_step n (Bytes peer front) in
     let two = node_step one.state (Bytes peer back) in
     let whole = node_step n (Bytes peer (front ++ back)) in
-    let alike = bytes_alike n peer front back (are_distinct id ce before) in
+    let alike = bytes_alike n peer front back in
     behind (first_node id ce) before (Bytes peer front ∷ Bytes peer back ∷ after) (Bytes peer (front ++ back) ∷ after)
     (ap (λ s. node_after s after) alike.state) (alike_acts one two whole after alike)

@@ -1,4 +1,4 @@
--- What a hub holds after acts and events: the acts stand behind those that were done, each with the number of events that
+-- What a hub holds after acts and events: the acts follow those that were done, each with the number of events that
 -- were taken before it. This profile's own.
 use Rattle.std.specs.Prelude.{◌≡◌, ◌≢◌, ◌⊎◌, ℕ, ◌<◌, ◌+◌, List, [], ◌∷◌, ◌++◌, length, ⊤, Option, Some, None, Result, Ok, Err, option_map}
 use Rattle.fc_base.specs.Causes.{Rose}
@@ -20,7 +20,7 @@ abbrev pub Acts : Option Held → Option Held → List Act → Type 0
 Acts old new acts = new ≡ option_map (acted acts) old
 
 -- The acts that were not done where a node stopped within acts. Where the hub failed these are the act that failed and all
--- behind it, so there is one.
+-- that follow it, so there is one.
 abbrev pub AreLeft : NodeStop → List Act → Type 0
 AreLeft HubFault left = left ≢ []
 AreLeft NoMemory left = ⊤

@@ -1,7 +1,8 @@
 -- A forwarding element behind a hub: which acts it makes of the events that it takes, in which order. This profile's own,
 -- over RFC 5810, section 6.1, on the frames of a stream.
-use Rattle.std.specs.Prelude.{ℕ, zero, suc, ◌+◌, ◌==◌, Bool, true, false, nat_lt, if◌then◌else◌, List, [], ◌∷◌, ◌++◌, length, take, drop, map, Option, Some, None}
-use Rattle.fc_wire.specs.Frames.{frame_len}
+use Rattle.std.specs.Prelude.{ℕ, ◌+◌, Bool, true, false, nat_lt, if◌then◌else◌, List, [], ◌∷◌, ◌++◌, map, Option, Some, None, refl}
+use Rattle.std.specs.Coded.{Coded, code_by, coded×}
+use Rattle.std.specs.FinMap.{empty, get, insert, len, remove}
 use Rattle.fc_hub.specs.declared.event.HubEvent.{HubEvent}
 use Rattle.fc_hub.specs.declared.event.HubEvent.TheVariants as event
 use Rattle.fc_hub.specs.declared.event.Act.{Act}
@@ -12,34 +13,9 @@ use Rattle.fc_msg.specs.Reading.{message_in}
 use Rattle.fc_element.specs.declared.input.ElIn.TheVariants.{Opened, Arrived, Closed, Moment}
 use Rattle.fc_element.specs.declared.input.Out.{Out}
 use Rattle.fc_element.specs.ElementMachine.{Turn, step}
-use Rattle.fc_element.specs.ElementState.{ElementState, opened}
-use Rattle.fc_tool.specs.declared.peers.Peer.{Peer}
-
--- the whole frames at the front of bytes, and what stands behind them
-pub record Cut : Type 0 where
-  pub frames : List (List ℕ)
-  pub rest : List ℕ
-
-abbrev pub cut : List (List ℕ) → List ℕ → Cut
-cut frames rest = record { frames = frames; rest = rest }
-
-abbrev pub in_front : List ℕ → Cut → Cut
-in_front frame c = cut (frame ∷ c.frames) c.rest
-
-abbrev pub cut_by : ℕ → List ℕ → Cut
-cut_by zero bytes = cut [] bytes
-cut_by (suc fuel) bytes =
-    if nat_lt (length bytes) (frame_len bytes) then cut [] bytes
-    else in_front (take (frame_len bytes) bytes) (cut_by fuel (drop (frame_len bytes) bytes))
-
-unfoldable pub cut_of : List ℕ → Cut
-cut_of bytes = cut_by (length bytes) bytes
-
-abbrev pub frames : List ℕ → List (List ℕ)
-frames bytes = (cut_of bytes).frames
-
-abbrev pub rest : List ℕ → List ℕ
-rest bytes = (cut_of bytes).rest
+use Rattle.fc_element.specs.ElementState.{ElementState, opened, state_code}
+use Rattle.fc_tool.specs.OpenPeers.{PeerMap, peer_map_code}
+use Rattle.fc_tool.specs.Streams.{frames, rest}
 
 -- what goes out becomes the acts of the hub
 abbrev pub sent : List Out → List Act
@@ -66,31 +42,16 @@ abbrev pub hears : ElementState → ℕ → List (List ℕ) → Heard
 hears e peer [] = heard e [] true
 hears e peer (frame ∷ frames) = by_message (message_in frame) e peer (λ next. hears next peer frames)
 
--- the node: the element, and the peers that are open, each with the bytes of it that are left, in the order of opening
+-- the node: the element, and the peers that are open, each with the bytes of it that are left
 pub record NodeState : Type 0 where
   pub element : ElementState
-  pub peers : List Peer
+  pub peers : PeerMap
 
-abbrev pub node : ElementState → List Peer → NodeState
+abbrev pub node : ElementState → PeerMap → NodeState
 node element peers = record { element = element; peers = peers }
 
-abbrev pub peer_with : ℕ → List ℕ → Peer
-peer_with number left = record { number = number; splitter = left }
-
--- the bytes that are left of a peer, if it is open
-abbrev pub left_of : ℕ → List Peer → Option (List ℕ)
-left_of peer [] = None
-left_of peer (p ∷ ps) = if p.number == peer then Some p.splitter else left_of peer ps
-
--- a peer with other bytes left
-abbrev pub put_left : ℕ → List ℕ → List Peer → List Peer
-put_left peer left [] = []
-put_left peer left (p ∷ ps) = if p.number == peer then peer_with peer left ∷ ps else p ∷ put_left peer left ps
-
--- the others
-abbrev pub without : ℕ → List Peer → List Peer
-without peer [] = []
-without peer (p ∷ ps) = if p.number == peer then ps else p ∷ without peer ps
+abbrev pub node_code : Coded NodeState
+node_code = code_by (ElementState × PeerMap) (coded× state_code peer_map_code) (λ n. (n.element, n.peers)) (λ p. node p.0 p.1) (λ _. refl)
 
 -- what the node is after an event, and the acts that it makes, in this order
 pub record Move : Type 0 where
@@ -101,18 +62,17 @@ abbrev pub move : NodeState → List Act → Move
 move state acts = record { state = state; acts = acts }
 
 -- an input of the element that goes with these peers
-abbrev pub after_turn : Turn → List Peer → Move
+abbrev pub after_turn : Turn → PeerMap → Move
 after_turn turn peers = move (node turn.state peers) (sent turn.outs)
 
-abbrev pub after_heard : Heard → ℕ → List ℕ → List Peer → Move
-after_heard h peer left peers = move (node h.element (if h.stays then put_left peer left peers else without peer peers)) h.acts
+abbrev pub after_heard : Heard → ℕ → List ℕ → PeerMap → Move
+after_heard h peer left peers = move (node h.element (if h.stays then insert peers peer left else remove peers peer)) h.acts
 
 -- a peer that is open begins anew; at most 64 are open, and one more is shut at once
 abbrev pub on_opened : NodeState → ℕ → Option (List ℕ) → Move
-on_opened n peer (Some left) = after_turn (step n.element (Opened peer)) (put_left peer [] n.peers)
+on_opened n peer (Some left) = after_turn (step n.element (Opened peer)) (insert n.peers peer [])
 on_opened n peer None =
-    if nat_lt (length n.peers) 64 then after_turn (step n.element (Opened peer)) (n.peers ++ peer_with peer [] ∷ [])
-    else move n (Shut peer ∷ [])
+    if nat_lt (len n.peers) 64 then after_turn (step n.element (Opened peer)) (insert n.peers peer []) else move n (Shut peer ∷ [])
 
 -- bytes of a peer that is not open give nothing
 abbrev pub on_bytes : NodeState → ℕ → List ℕ → Option (List ℕ) → Move
@@ -121,14 +81,14 @@ on_bytes n peer piece (Some left) =
 on_bytes n peer piece None = move n []
 
 abbrev pub on_closed : NodeState → ℕ → Option (List ℕ) → Move
-on_closed n peer (Some left) = after_turn (step n.element (Closed peer)) (without peer n.peers)
+on_closed n peer (Some left) = after_turn (step n.element (Closed peer)) (remove n.peers peer)
 on_closed n peer None = move n []
 
 -- one event
 abbrev pub node_step : NodeState → HubEvent → Move
-node_step n (event.Opened peer) = on_opened n peer (left_of peer n.peers)
-node_step n (event.Bytes peer piece) = on_bytes n peer piece (left_of peer n.peers)
-node_step n (event.Closed peer) = on_closed n peer (left_of peer n.peers)
+node_step n (event.Opened peer) = on_opened n peer (get n.peers peer)
+node_step n (event.Bytes peer piece) = on_bytes n peer piece (get n.peers peer)
+node_step n (event.Closed peer) = on_closed n peer (get n.peers peer)
 node_step n (event.Moment moment) = after_turn (step n.element (Moment moment)) n.peers
 node_step n event.Over = move n []
 
@@ -148,4 +108,4 @@ acts_of taken n (e ∷ es) = numbered (taken + 1) (node_step n e).acts ++ acts_o
 
 -- the node of an element that was just made
 abbrev pub first_node : ℕ → ℕ → NodeState
-first_node id ce = node (opened id ce) []
+first_node id ce = node (opened id ce) empty

@@ -113,12 +113,12 @@ ElementCut limit id ce turns before left old new text now =
     (end : ElementEnd) × (bytes : List ℕ) × (events : List HubEvent) × ElementWent limit id ce turns end bytes events before left old new
     × AppendsFront text now (element_text id ce end bytes events)
 
--- memory lacked over the hub: before the first event, or over one that is among those to be taken
+-- out of memory over the hub: before the first event, or over one that is among those to be taken
 abbrev pub HubLacked : ℕ → ℕ → ℕ → Option Held → Option Held → Type 0
 HubLacked id ce turns old new =
     (new ≡ old) ⊎ ((events : List HubEvent) × (length events < turns) × Broke stop.NoMemory old new (first_node id ce) events)
 
--- memory lacked before it came to an end: while the input was read and judged, or over the hub
+-- out of memory before it came to an end: while the input was read and judged, or over the hub
 abbrev pub ElementLacked : ℕ → ℕ → ℕ → ℕ → Option (List ℕ) → Option (List ℕ) → Option Held → Option Held → Type 0
 ElementLacked limit id ce turns before left old new =
     ((bytes : List ℕ) × Consumes before left bytes × (length bytes ≤ limit) × (new ≡ old))
@@ -132,7 +132,7 @@ ElementEnds limit id ce turns (Ok end) before left old new text now =
     × Appends text now (element_text id ce end bytes events)
 -- the sink failed
 ElementEnds limit id ce turns (Err WriteFault) before left old new text now = ElementCut limit id ce turns before left old new text now
--- memory lacked for what was to be written, or before anything was
+-- out of memory for what was to be written, or before anything was
 ElementEnds limit id ce turns (Err NoMemory) before left old new text now =
     ElementCut limit id ce turns before left old new text now
     ⊎ (ElementLacked limit id ce turns before left old new × Appends text now [])

@@ -1,11 +1,14 @@
 pub mod Acting
 pub mod ElementNode
 pub mod ElementRun
+pub mod Limits
 pub mod Make
 pub mod Nexts
+pub mod OpenPeers
 pub mod Pieces
-pub mod Places
 pub mod Run
+pub mod RunsAlike
 pub mod Show
 pub mod Stops
+pub mod Streams
 pub mod Text

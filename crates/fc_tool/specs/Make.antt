@@ -40,7 +40,7 @@ abbrev pub IsTextOf : List Message → List ℕ → List ℕ → Type 0
 IsTextOf ms bytes written = SpellsText ms bytes × ((ns : List Message) → SpellsText ns bytes → written ≡ bytes_of ns)
 
 -- the bytes are a text of no messages by its grammar; nothing fits first at the place, or a message that can't be encoded begins there;
--- and the place is within the text, or right behind a line or the text
+-- and the place is within the text, or right after a line or the text
 abbrev pub IsRefusedAt : TextPlace → List ℕ → Type 0
 IsRefusedAt at bytes =
     ((ms : List Message) → SpellsText ms bytes → ⊥) × (FirstMisfit FitsMessages at bytes ⊎ TooLongAt at bytes) × IsWithin at bytes
@@ -71,7 +71,7 @@ MakeEnds limit (Ok end) before left old new =
     (bytes : List ℕ) × (written : List ℕ) × MakeWent limit end bytes written before left × Appends old new written
 -- the sink failed
 MakeEnds limit (Err WriteFault) before left old new = MakeCut limit before left old new
--- memory lacked for what was to be written, or before anything was
+-- out of memory for what was to be written, or before anything was
 MakeEnds limit (Err NoMemory) before left old new =
     MakeCut limit before left old new
     ⊎ ((bytes : List ℕ) × Consumes before left bytes × (length bytes ≤ limit) × Appends old new [])

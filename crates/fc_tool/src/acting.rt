@@ -18,7 +18,7 @@ use std::alloc::Global;
 pub enum NodeStop {
     /// The hub failed.
     HubFault,
-    /// There was no memory.
+    /// Out of memory.
     NoMemory,
 }
 

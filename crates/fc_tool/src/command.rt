@@ -9,13 +9,13 @@ ghost use Rattle.fc_tool.specs.declared.make.Made.{Made};
 ghost use Rattle.fc_tool.specs.declared.show.Shown.{Shown};
 ghost use Rattle.fc_tool.specs.declared.stops.Stop.{Stop};
 ghost use Rattle.fc_tool.specs.ElementRun.{ElementEnds, element_status};
+ghost use Rattle.fc_tool.specs.Limits.{most_bytes};
 ghost use Rattle.fc_tool.specs.Make.{MakeEnds, make_status};
 ghost use Rattle.fc_tool.specs.Run.{UsageEnds, usage_status};
 ghost use Rattle.fc_tool.specs.Show.{ShowEnds, status_of};
 ghost use Rattle.fc_tool.specs.Stops.{FlushedAt, SinkCount};
 
 use crate::element::{ElementEnd, element};
-use crate::input::LIMIT;
 use crate::make::{Made, make};
 use crate::show::{Shown, show};
 use crate::status::{
@@ -44,17 +44,17 @@ pub fn run<S: Source, K: Sink, H: Hub>(
 
     // What was read, what was written of it, and the status, for `show`.
     ensures show { command_of (map string_bytes words.now) ≡ Some meant.Show → (how : Result Shown Stop) × (result ≡ status_of how)
-        × ShowEnds LIMIT how (S.left input.old) (S.left input.new) (K.written out.old) (K.written out.new) }
+        × ShowEnds most_bytes how (S.left input.old) (S.left input.new) (K.written out.old) (K.written out.new) }
 
     // The same for `make`.
     ensures make { command_of (map string_bytes words.now) ≡ Some meant.Make → (how : Result Made Stop) × (result ≡ make_status how)
-        × MakeEnds LIMIT how (S.left input.old) (S.left input.new) (K.written out.old) (K.written out.new) }
+        × MakeEnds most_bytes how (S.left input.old) (S.left input.new) (K.written out.old) (K.written out.new) }
 
     // What was read, done on the hub and written, and the status, for `element`.
     ensures element { (fe ce : ℕ) (address : List ℕ) (connections turns : ℕ)
         → command_of (map string_bytes words.now) ≡ Some (meant.Element fe ce address connections turns)
         → (how : Result ElementEnd Stop) × (result ≡ element_status how)
-        × ElementEnds LIMIT fe ce turns how (S.left input.old) (S.left input.new) (H.held hub.old) (H.held hub.new) (K.written out.old) (K.written out.new) }
+        × ElementEnds most_bytes fe ce turns how (S.left input.old) (S.left input.new) (H.held hub.old) (H.held hub.new) (K.written out.old) (K.written out.new) }
 
     // Only `element` uses the hub.
     ensures hub { ((fe ce : ℕ) (address : List ℕ) (connections turns : ℕ)
@@ -68,7 +68,7 @@ pub fn run<S: Source, K: Sink, H: Hub>(
     ensures sink_steady { result ≢ WRITE_FAULT → K.faults out.new ≡ K.faults out.old }
     ensures hub_steady { result ≢ HUB_FAULT → result ≢ WRITE_FAULT → result ≢ NO_MEMORY → H.faults hub.new ≡ H.faults hub.old }
 
-    // Where no count rose, the input alone decides, or there was no memory; for `element`, the input and the events.
+    // Where no count rose, the input alone decides, or it ran out of memory; for `element`, the input and the events.
     ensures complete { command_of (map string_bytes words.now) ≡ Some meant.Show
         → (Rose (S.faults input.old) (S.faults input.new) → ⊥) → (Rose (K.faults out.old) (K.faults out.new) → ⊥)
         → (result ≡ DONE) ⊎ ((result ≡ NO_MESSAGE) ⊎ ((result ≡ TOO_LONG) ⊎ (result ≡ NO_MEMORY))) }

@@ -1,15 +1,17 @@
 // The frames of a peer as inputs of an element.
-ghost use Rattle.std.specs.Prelude.{◌≡◌, true, IfOk, IfErr, OnOk, OnErr, IsTrue};
+ghost use Rattle.std.specs.Prelude.{◌≡◌, true, IfOk, IfErr, OnOk};
+ghost use Rattle.fc_wire.specs.Frames.{without_first};
 ghost use Rattle.fc_tool.specs.Acting.{Acts, ActsUntil, HubCount};
-ghost use Rattle.fc_tool.specs.ElementNode.{frames, hears, rest};
+ghost use Rattle.fc_tool.specs.ElementNode.{hears};
 ghost use Rattle.fc_tool.specs.Nexts.{IsNextOf};
+ghost use Rattle.fc_tool.specs.Streams.{frames, rest};
 
 use crate::acting::{NodeStop, shut};
 use crate::giving::give;
 use fc_base::Memory;
 use fc_element::{ElIn, Element};
 use fc_hub::Hub;
-use fc_msg::{Message, MsgFault, Splitter, decode, whole_frame};
+use fc_msg::{Message, MsgFault, Splitter, decode};
 use std::alloc::Global;
 
 /// Gives each whole frame of a peer to the element as a message, sending what the element gives before it goes on, and
@@ -58,19 +60,16 @@ pub enum Next {
     NoMessage,
 }
 
-// Takes the first message, if one stands there.
+// Takes the first frame, and gives the message that it spells.
 fn next_message(alloc: Global, splitter: &mut Splitter) -> Result<Next, Memory>
-    ensures next { IfOk result (λ next. IsNextOf splitter.old next splitter.new) }
-    ensures err { OnErr result (splitter.new ≡ splitter.old) }
+    ensures next { IfOk result (λ next. IsNextOf splitter.old next) }
+    ensures left { splitter.new ≡ without_first splitter.old }
 {
-    let Some(size) = whole_frame(splitter.rest()) else {
+    let Some(frame) = splitter.next() else {
         return Ok(Next::Nothing);
     };
-    match decode(alloc, &splitter.rest()[..size]) {
-        Ok(message) => {
-            splitter.take(size);
-            Ok(Next::Arrived(message))
-        }
+    match decode(alloc, frame) {
+        Ok(message) => Ok(Next::Arrived(message)),
         Err(MsgFault::At(_)) => Ok(Next::NoMessage),
         Err(MsgFault::Memory) => Err(Memory),
     }

@@ -6,10 +6,11 @@ ghost use Rattle.fc_element.specs.ElementMachine.{report_of};
 ghost use Rattle.fc_library.specs.Refusals.{refusal_text};
 ghost use Rattle.fc_library.specs.declared.fault.LibFault.TheVariants as faults;
 ghost use Rattle.fc_tool.specs.ElementRun.{DocumentEnds, ElementEnds, ElementHub, ElementSource, RunEnds};
+ghost use Rattle.fc_tool.specs.Limits.{most_bytes};
 ghost use Rattle.fc_tool.specs.Stops.{FlushedAt, SinkCount};
 
 use crate::acting::NodeStop;
-use crate::input::{LIMIT, Look, look_over};
+use crate::input::{Look, look_over};
 use crate::node::Node;
 use crate::serve::{Served, serve};
 use crate::stops::{Stop, finish, put};
@@ -47,7 +48,7 @@ pub fn element<S: Source, K: Sink, H: Hub>(
     out: &mut K,
     hub: &mut H,
 ) -> Result<ElementEnd, Stop>
-    ensures ends { ElementEnds LIMIT fe ce turns result (S.left input.old) (S.left input.new) (H.held hub.old) (H.held hub.new) (K.written out.old) (K.written out.new) }
+    ensures ends { ElementEnds most_bytes fe ce turns result (S.left input.old) (S.left input.new) (H.held hub.old) (H.held hub.new) (K.written out.old) (K.written out.new) }
     ensures flushed { FlushedAt result (K.written out.new) (K.flushed out.old) (K.flushed out.new) }
     ensures source { ElementSource result (S.faults input.old) (S.faults input.new) }
     ensures hub { ElementHub result (H.faults hub.old) (H.faults hub.new) }
@@ -73,7 +74,7 @@ fn element_ends<S: Source, K: Sink, H: Hub>(
     out: &mut K,
     hub: &mut H,
 ) -> Result<ElementEnd, Stop>
-    ensures ends { ElementEnds LIMIT fe ce turns result (S.left input.old) (S.left input.new) (H.held hub.old) (H.held hub.new) (K.written out.old) (K.written out.new) }
+    ensures ends { ElementEnds most_bytes fe ce turns result (S.left input.old) (S.left input.new) (H.held hub.old) (H.held hub.new) (K.written out.old) (K.written out.new) }
     ensures unflushed { K.flushed out.new ≡ K.flushed out.old }
     ensures source { ElementSource result (S.faults input.old) (S.faults input.new) }
     ensures hub { ElementHub result (H.faults hub.old) (H.faults hub.new) }
@@ -88,7 +89,7 @@ fn element_ends<S: Source, K: Sink, H: Hub>(
     }
 }
 
-// Runs the element, if its document means a library. Else it tells why it means none.
+// Runs the element, if its document means a library. Else it writes why it means none.
 fn declared_element<K: Sink, H: Hub>(
     alloc: Global,
     fe: FeId,

@@ -1,6 +1,7 @@
 // Reads an input whole.
 ghost use Rattle.std.specs.Prelude.{◌≡◌, ◌≢◌, ◌≤◌, ◌<◌, []};
 ghost use Rattle.fc_tool.specs.ElementRun.{LookCount, LookEnds};
+ghost use Rattle.fc_tool.specs.Limits.{most_bytes};
 
 use fc_base::{Memory, Source, Trouble};
 use fc_msg::Splitter;
@@ -37,7 +38,7 @@ pub fn next_piece(left: usize) -> usize
 /// Reads the input to its end, as far as it is looked at, and holds what was read.
 pub fn look_over<S: Source>(input: &mut S, held: &mut Splitter) -> Result<Look, Memory>
     requires { held.old ≡ [] }
-    ensures ends { LookEnds LIMIT result held.new (S.left input.old) (S.left input.new) }
+    ensures ends { LookEnds most_bytes result held.new (S.left input.old) (S.left input.new) }
     ensures count { LookCount result (S.faults input.old) (S.faults input.new) }
 {
     let mut count = 0usize;

@@ -1,5 +1,5 @@
 // Laws of frames, of what is written of them, and of how the input ends.
-ghost use Rattle.std.specs.Prelude.{◌≡◌, ◌⊎◌, List, ℕ, Option, Some, Ok, ◌∷◌, ◌++◌};
+ghost use Rattle.std.specs.Prelude.{◌≡◌, ◌⊎◌, List, ℕ, Option, Some, Result, Ok, ◌∷◌, ◌++◌};
 ghost use Rattle.fc_wire.specs.Bytes.{AreBytes};
 ghost use Rattle.fc_wire.specs.Frames.{Frames, IsFrame};
 ghost use Rattle.fc_tool.specs.declared.element.ElementEnd.{ElementEnd};
@@ -9,15 +9,18 @@ ghost use Rattle.fc_msg.specs.declared.fault.Refusal.{Refusal};
 ghost use Rattle.fc_msg.specs.declared.message.Message.{Message};
 ghost use Rattle.fc_tool.specs.declared.make.Made.{Made};
 ghost use Rattle.fc_tool.specs.declared.show.Shown.{Shown};
-ghost use Rattle.fc_hub.specs.Hubs.{Held};
+ghost use Rattle.fc_tool.specs.declared.stops.Stop.{Stop};
+ghost use Rattle.fc_hub.specs.Hubs.{Held, holds};
+ghost use Rattle.fc_hub.specs.declared.event.Act.{Act};
 ghost use Rattle.fc_hub.specs.declared.event.HubEvent.{HubEvent};
 ghost use Rattle.fc_hub.specs.declared.event.HubEvent.TheVariants.{Bytes};
 ghost use Rattle.fc_tool.specs.ElementRun.{ElementEnds, IsOutcome};
-ghost use Rattle.fc_tool.specs.ElementNode.{NodeState, first_node, frames, node_after, node_step, rest};
+ghost use Rattle.fc_tool.specs.ElementNode.{NodeState, first_node, node_step};
 ghost use Rattle.fc_tool.specs.Make.{IsTold, MakeEnds};
 ghost use Rattle.fc_tool.specs.Pieces.{AreAlike, MakeTheSame};
-ghost use Rattle.fc_tool.specs.Places.{AreDistinct};
+ghost use Rattle.fc_tool.specs.RunsAlike.{EndAlike, IsRunOut};
 ghost use Rattle.fc_tool.specs.Show.{AreMessages, IsVerdict, ShowEnds, text_of};
+ghost use Rattle.fc_tool.specs.Streams.{frames, rest};
 
 /// Bytes spell a message or have exactly one fault, and never both; what spells one is a frame.
 pub fn frame_is_judged_once()
@@ -53,17 +56,19 @@ pub fn element_ends_once()
 {}
 
 /// Bytes of a peer that come in two pieces make the same of a node as the whole, wherever they are cut: the same acts in
-/// the same order, and the same node afterwards. So a run with such an event in two differs in the numbers of events alone.
+/// the same order, and the same node afterwards. So a run with such an event in two differs in the numbers of events alone:
+/// where nothing fails, memory suffices and neither run takes as many events as are to be taken, `element` ends with the same
+/// status and the same report.
 pub fn bytes_may_be_cut()
-    ensures event { (n : NodeState) (peer : ℕ) (front back : List ℕ) → AreDistinct n.peers
+    ensures event { (n : NodeState) (peer : ℕ) (front back : List ℕ)
         → AreAlike (node_step n (Bytes peer front)) (node_step (node_step n (Bytes peer front)).state (Bytes peer back)) (node_step n (Bytes peer (front ++ back))) }
     ensures run { (id ce : ℕ) (before after : List HubEvent) (peer : ℕ) (front back : List ℕ)
         → MakeTheSame (first_node id ce) (before ++ Bytes peer front ∷ Bytes peer back ∷ after) (before ++ Bytes peer (front ++ back) ∷ after) }
-{}
-
-/// Whatever events a node takes, each peer is open once at most.
-pub fn peers_are_distinct()
-    ensures { (id ce : ℕ) (events : List HubEvent) → AreDistinct (node_after (first_node id ce) events).peers }
+    ensures status { (limit id ce turns : ℕ) (document : List ℕ) (before after : List HubEvent) (peer : ℕ) (front back : List ℕ) (taken : ℕ) (done : List (ℕ × Act)) (one other : Result ElementEnd Stop)
+        (l k : Option (List ℕ)) (first second : Option Held) (old : List ℕ) (new renewed : Option (List ℕ)) → IsRunOut one → IsRunOut other
+        → ElementEnds limit id ce turns one (Some document) l (Some (holds (before ++ Bytes peer front ∷ Bytes peer back ∷ after) taken done)) first (Some old) new
+        → ElementEnds limit id ce turns other (Some document) k (Some (holds (before ++ Bytes peer (front ++ back) ∷ after) taken done)) second (Some old) renewed
+        → EndAlike one other first second new renewed }
 {}
 
 /// The frames that a node takes of the bytes of a peer are those of the stream, and less than one is left.

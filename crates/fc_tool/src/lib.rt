@@ -22,7 +22,7 @@ pub use command::run;
 pub use element::ElementEnd;
 pub use laws::{
     bytes_may_be_cut, element_ends_once, frame_is_judged_once, input_ends_once, make_ends_once,
-    node_takes_the_frames, peers_are_distinct, text_is_unique,
+    node_takes_the_frames, text_is_unique,
 };
 pub use make::Made;
 pub use show::Shown;

@@ -3,10 +3,11 @@ ghost use Rattle.std.specs.Prelude.{◌≡◌, OnOk, OnErr, IfOk, string_bytes};
 ghost use Rattle.std.specs.Io.KnownBytes.{Appends};
 ghost use Rattle.fc_base.specs.Content.{AppendsFront};
 ghost use Rattle.fc_text.specs.TextPlaces.{place};
+ghost use Rattle.fc_tool.specs.Limits.{most_bytes};
 ghost use Rattle.fc_tool.specs.Make.{MakeEnds, MakeSource, TextEnds, text_refusal};
 ghost use Rattle.fc_tool.specs.Stops.{FlushedAt, SinkCount};
 
-use crate::input::{LIMIT, Look, look_over};
+use crate::input::{Look, look_over};
 use crate::stops::{Stop, finish, put};
 use fc_base::{Memory, Sink, Source};
 use fc_msg::Splitter;
@@ -28,7 +29,7 @@ pub enum Made {
 
 /// Writes the canonical bytes of the messages of the text that comes in, or why it is the text of none, and flushes it.
 pub fn make<S: Source, K: Sink>(alloc: Global, input: &mut S, out: &mut K) -> Result<Made, Stop>
-    ensures ends { MakeEnds LIMIT result (S.left input.old) (S.left input.new) (K.written out.old) (K.written out.new) }
+    ensures ends { MakeEnds most_bytes result (S.left input.old) (S.left input.new) (K.written out.old) (K.written out.new) }
     ensures flushed { FlushedAt result (K.written out.new) (K.flushed out.old) (K.flushed out.new) }
     ensures source { MakeSource result (S.faults input.old) (S.faults input.new) }
     ensures sink { SinkCount result (K.faults out.old) (K.faults out.new) }
@@ -45,7 +46,7 @@ pub fn make<S: Source, K: Sink>(alloc: Global, input: &mut S, out: &mut K) -> Re
 
 // Reads the text whole, and writes what is made of it.
 fn make_all<S: Source, K: Sink>(alloc: Global, input: &mut S, out: &mut K) -> Result<Made, Stop>
-    ensures ends { MakeEnds LIMIT result (S.left input.old) (S.left input.new) (K.written out.old) (K.written out.new) }
+    ensures ends { MakeEnds most_bytes result (S.left input.old) (S.left input.new) (K.written out.old) (K.written out.new) }
     ensures unflushed { K.flushed out.new ≡ K.flushed out.old }
     ensures source { MakeSource result (S.faults input.old) (S.faults input.new) }
     ensures sink { SinkCount result (K.faults out.old) (K.faults out.new) }

@@ -1,67 +1,77 @@
-// The peers that are open, with the bytes of each that are left.
-ghost use Rattle.std.specs.Prelude.{◌≡◌, ◌<◌, false, None, Some, length, is_some, slice_set, slice_get, IfSome, IfNone};
-ghost use Rattle.fc_tool.specs.declared.peers.Peer.{Peer};
-ghost use Rattle.fc_tool.specs.ElementNode.{left_of, peer_with, put_left, without};
-ghost use Rattle.fc_tool.specs.Places.{StandsAt, StandsNowhere};
+// The peers that are open, which contracts see as a finite map.
+ghost use Rattle.std.specs.Prelude.{◌≡◌, false, [], OnOk, OnErr, IfSome, IfNone};
+ghost use Rattle.std.specs.FinMap.{contains_key, empty, get, insert, len, remove};
 
+use fc_base::Memory;
 use fc_msg::Splitter;
+use std::alloc::Global;
+use std::collections::BTreeMap;
+use std::marker::Model;
 
-/// A peer that is open.
+/// The peers that are open, each with the bytes that came from it and were not taken.
 #[derive(Drop)]
-pub struct Peer {
-    /// The number of the byte carrier.
-    pub number: u32,
-    /// What came from it and was not taken.
-    pub splitter: Splitter,
+pub struct Peers {
+    // by the numbers of their byte carriers
+    splitters: BTreeMap<u32, Splitter>,
 }
 
-// Where a peer stands, if it is open.
-fn place_of(peers: &[Peer], number: u32) -> Option<usize>
-    ensures some { IfSome result (λ place. StandsAt peers.now number place) }
-    ensures none { IfNone result (StandsNowhere peers.now number) }
-{
-    for (place, peer) in peers.iter().enumerate() {
-        if peer.number == number {
-            return Some(place);
+impl Model for Peers {
+    ghost use Rattle.fc_tool.specs.OpenPeers.{PeerMap, peer_map_code, peers_of};
+
+    ghost Value = { PeerMap };
+
+    ghost coded = { peer_map_code };
+
+    ghost view = { λ s. peers_of s.splitters.entries };
+}
+
+impl Peers {
+    /// No peer is open. It takes no memory.
+    pub fn new(alloc: Global) -> Peers
+        ensures { result ≡ empty }
+    {
+        Peers {
+            splitters: BTreeMap::new(alloc),
         }
     }
-    None
-}
 
-/// Puts other bytes in the place of those that are left of a peer, and gives these, if it is open.
-pub fn put(peers: &mut Vec<Peer>, number: u32, splitter: Splitter) -> Option<Splitter>
-    ensures left { result ≡ left_of number peers.old.items }
-    ensures put { peers.new.items ≡ put_left number splitter peers.old.items }
-    ensures none { result ≡ None → peers.new.items ≡ peers.old.items }
-    ensures len { length peers.new.items ≡ length peers.old.items }
-{
-    match place_of(peers.as_slice(), number) {
-        Some(place) => Some(exchange(peers, place, splitter)),
-        None => None,
+    /// How many peers are open.
+    pub fn len(&self) -> usize
+        ensures { result ≡ len self.now }
+    {
+        self.splitters.len()
     }
-}
 
-/// Takes a peer away, and says whether it was open.
-pub fn remove(peers: &mut Vec<Peer>, number: u32) -> bool
-    ensures open { result ≡ is_some (left_of number peers.old.items) }
-    ensures others { peers.new.items ≡ without number peers.old.items }
-    ensures none { result ≡ false → peers.new.items ≡ peers.old.items }
-{
-    match place_of(peers.as_slice(), number) {
-        Some(place) => {
-            peers.remove(place);
-            true
+    /// Opens a peer of which nothing came yet, in the place of what is left of it if it is open. After an `Err` nothing has
+    /// changed.
+    pub fn open(&mut self, alloc: Global, peer: u32) -> Result<(), Memory>
+        ensures ok { OnOk result (self.new ≡ insert self.old peer []) }
+        ensures err { OnErr result (self.new ≡ self.old) }
+    {
+        match self.splitters.insert(peer, Splitter::new(alloc)) {
+            Ok(_) => Ok(()),
+            Err(_) => Err(Memory),
         }
-        None => false,
     }
-}
 
-// Puts other bytes in the place of those that are left of the peer at a place, and gives these.
-fn exchange(peers: &mut Vec<Peer>, place: usize, splitter: Splitter) -> Splitter
-    requires { place < length peers.old.items }
-    ensures left { (peer : Peer) → slice_get peers.old.items place ≡ Some peer → result ≡ peer.splitter }
-    ensures put { (peer : Peer) → slice_get peers.old.items place ≡ Some peer → peers.new.items ≡ slice_set peers.old.items place (peer_with peer.number splitter) }
-{
-    let peer = &mut peers[place];
-    std::mem::replace(&mut peer.splitter, splitter)
+    /// Puts other bytes in the place of those that are left of a peer, and gives these, if it is open.
+    pub fn put(&mut self, peer: u32, splitter: Splitter) -> Option<Splitter>
+        ensures left { result ≡ get self.old peer }
+        ensures some { IfSome result (λ _. self.new ≡ insert self.old peer splitter) }
+        ensures none { IfNone result (self.new ≡ self.old) }
+    {
+        let Some(left) = self.splitters.get_mut(&peer) else {
+            return None;
+        };
+        Some(std::mem::replace(left, splitter))
+    }
+
+    /// Closes a peer, and says whether it was open.
+    pub fn close(&mut self, peer: u32) -> bool
+        ensures open { result ≡ contains_key self.old peer }
+        ensures others { self.new ≡ remove self.old peer }
+        ensures none { result ≡ false → self.new ≡ self.old }
+    {
+        self.splitters.remove(&peer).is_some()
+    }
 }

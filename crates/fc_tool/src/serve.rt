@@ -2,7 +2,6 @@
 ghost use Rattle.std.specs.Prelude.{◌≡◌, ◌↔◌, IsTrue};
 ghost use Rattle.fc_hub.specs.declared.event.HubEvent.TheVariants.{Over};
 ghost use Rattle.fc_tool.specs.Acting.{HubCount, ServeEnds};
-ghost use Rattle.fc_tool.specs.ElementNode.{node as node_of};
 
 use crate::acting::NodeStop;
 use crate::node::Node;
@@ -20,7 +19,7 @@ pub enum Served {
 
 /// Takes events of the hub, at most so many, and does the acts of each before it takes the next.
 pub fn serve<H: Hub>(node: &mut Node, hub: &mut H, turns: u32) -> Result<Served, NodeStop>
-    ensures ends { ServeEnds result turns (node_of node.old.element node.old.peers.items) (node_of node.new.element node.new.peers.items) (H.held hub.old) (H.held hub.new) }
+    ensures ends { ServeEnds result turns node.old node.new (H.held hub.old) (H.held hub.new) }
     ensures count { HubCount result (H.faults hub.old) (H.faults hub.new) }
 {
     'turns: for _ in 0..turns {

@@ -1,6 +1,7 @@
 // Reads frames and writes the text of each.
 ghost use Rattle.std.specs.Prelude.{◌≡◌, ◌≢◌, ◌≤◌, ◌<◌, ◌^◌, ◌++◌, ◌+◌, ◌-◌, is_ok, if◌then◌else◌, None, length, IfOk};
 ghost use Rattle.fc_wire.specs.Frames.{IsPartial};
+ghost use Rattle.fc_tool.specs.Limits.{most_bytes};
 ghost use Rattle.fc_tool.specs.Show.{PieceEnds, RestEnds, ShowEnds, SourceCount};
 ghost use Rattle.fc_tool.specs.Stops.{FlushedAt, SinkCount};
 
@@ -27,7 +28,7 @@ pub enum Shown {
 
 /// Shows the frames of the input, and flushes what it wrote.
 pub fn show<S: Source, K: Sink>(alloc: Global, input: &mut S, out: &mut K) -> Result<Shown, Stop>
-    ensures ends { ShowEnds LIMIT result (S.left input.old) (S.left input.new) (K.written out.old) (K.written out.new) }
+    ensures ends { ShowEnds most_bytes result (S.left input.old) (S.left input.new) (K.written out.old) (K.written out.new) }
     ensures flushed { FlushedAt result (K.written out.new) (K.flushed out.old) (K.flushed out.new) }
     ensures source { SourceCount result (S.faults input.old) (S.faults input.new) }
     ensures sink { SinkCount result (K.faults out.old) (K.faults out.new) }
@@ -44,7 +45,7 @@ pub fn show<S: Source, K: Sink>(alloc: Global, input: &mut S, out: &mut K) -> Re
 
 // Shows all frames up to the end of the input.
 fn show_all<S: Source, K: Sink>(alloc: Global, input: &mut S, out: &mut K) -> Result<Shown, Stop>
-    ensures ends { ShowEnds LIMIT result (S.left input.old) (S.left input.new) (K.written out.old) (K.written out.new) }
+    ensures ends { ShowEnds most_bytes result (S.left input.old) (S.left input.new) (K.written out.old) (K.written out.new) }
     ensures unflushed { K.flushed out.new ≡ K.flushed out.old }
     ensures source { SourceCount result (S.faults input.old) (S.faults input.new) }
     ensures sink { SinkCount result (K.faults out.old) (K.faults out.new) }

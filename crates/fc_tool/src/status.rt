@@ -21,7 +21,7 @@ pub const REFUSED: u8 = 5;
 /// The input has a frame that is no message, or ends within a frame.
 pub const NO_MESSAGE: u8 = 6;
 
-/// There was no memory.
+/// Out of memory.
 pub const NO_MEMORY: u8 = 9;
 
 /// So many events were taken as are to be taken.

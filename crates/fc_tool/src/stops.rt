@@ -11,7 +11,7 @@ use fc_base::{Memory, Sink, Trouble, write_all};
 pub enum Stop {
     /// The sink failed.
     WriteFault,
-    /// There was no memory.
+    /// Out of memory.
     NoMemory,
 }
 

@@ -1,7 +1,8 @@
 use Rattle.std.proofs.Common.{◌≡◌, List, length}
 use Rattle.fc_hub.specs.declared.event.Act.{Act}
 use Rattle.fc_tool.specs.Acting.{Acts}
-use Rattle.fc_tool.specs.ElementNode.{frames, hears, rest}
+use Rattle.fc_tool.specs.ElementNode.{hears}
+use Rattle.fc_tool.specs.Streams.{frames, rest}
 use Rattle.fc_tool.proofs.Hearing.{before}
 use Rattle.fc_tool.proofs.delivery.deliver.Given as goal
 

@@ -1,5 +1,6 @@
 use Rattle.fc_tool.proofs.Pieces.{bytes_alike}
 use Rattle.fc_tool.proofs.Runs.{run_alike}
+use Rattle.fc_tool.proofs.RunsAlike.{cut_alike}
 use Rattle.fc_tool.proofs.laws.bytes_may_be_cut.Goals as goal
 
 pub returns-clause-event : goal.returns-clause-event
@@ -7,3 +8,6 @@ returns-clause-event c = bytes_alike
 
 pub returns-clause-run : goal.returns-clause-run
 returns-clause-run c = run_alike
+
+pub returns-clause-status : goal.returns-clause-status
+returns-clause-status c = cut_alike

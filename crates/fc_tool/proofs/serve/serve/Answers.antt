@@ -1,6 +1,6 @@
 use Rattle.std.proofs.Common.{◌≢◌, ◌∙◌, sym, ap, refl, [], ◌∷◌, ◌++◌, ◌+◌, length-append}
 use Rattle.fc_hub.specs.declared.event.HubEvent.TheVariants.{Over}
-use Rattle.fc_tool.specs.ElementNode.{node, node_step}
+use Rattle.fc_tool.specs.ElementNode.{node_step}
 use Rattle.fc_tool.proofs.Serving.{after_more, took, went_more, went_none}
 use Rattle.fc_tool.proofs.serve.serve.Goals as goal
 
@@ -11,7 +11,7 @@ pub turns-preserved : goal.turns-preserved
 turns-preserved g c =
     let (es, count, went, is) = c.turns.invariant.went in
     let e = c.in-Ok.event in
-    let n = node c.args.node.now.element c.args.node.now.peers.items in
+    let n = c.args.node.now in
     let other : e ≢ Over = λ over. (let t = c.if-is_over.ensures.1 over in cc) in
     let one = took _ _ _ n es e went c.in-Ok.ensures.ok c.in-Ok.ensures.event other in
     let told = c.in-Ok-take.ensures in

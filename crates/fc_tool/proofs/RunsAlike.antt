@@ -1,0 +1,90 @@
+-- Two runs of `element` over events that make the same of a node have one ending, with the same acts and the same text.
+use Rattle.std.proofs.Common.{◌≡◌, ◌++◌, ◌∷◌, ℕ, List, refl, sym, ap, ◌∙◌, Option, None, Some, Result, Ok, Err}
+use Rattle.std.proofs.lemmas.List.{map-append}
+use Rattle.std.specs.Io.KnownBytes.{Appends}
+use Rattle.fc_element.specs.ElementMachine.{report_of}
+use Rattle.fc_hub.specs.Hubs.{Held, holds}
+use Rattle.fc_hub.specs.declared.event.Act.{Act}
+use Rattle.fc_hub.specs.declared.event.HubEvent.{HubEvent}
+use Rattle.fc_hub.specs.declared.event.HubEvent.TheVariants.{Bytes}
+use Rattle.fc_library.specs.Documents.{library_of}
+use Rattle.fc_tool.specs.declared.element.ElementEnd.{ElementEnd}
+use Rattle.fc_tool.specs.declared.element.ElementEnd.TheVariants.{Done, ReadFault, HubFault, Refused, Turns, TooLong}
+use Rattle.fc_tool.specs.declared.stops.Stop.{Stop}
+use Rattle.fc_tool.specs.Acting.{Went}
+use Rattle.fc_tool.specs.ElementNode.{acts_of, first_node, node_after}
+use Rattle.fc_tool.specs.ElementRun.{ElementEnds, refused_text, report_after}
+use Rattle.fc_tool.specs.Pieces.{MakeTheSame, unnumbered}
+use Rattle.fc_tool.specs.RunsAlike.{EndAlike, IsRunOut, acts_held}
+use Rattle.fc_tool.proofs.Outcomes.{library_or_none, read_twice, whole_long}
+use Rattle.fc_tool.proofs.Runs.{run_alike}
+
+-- the same was appended to the same
+same_text : (old : List ℕ) (new other : Option (List ℕ)) (s t : List ℕ) → Appends (Some old) new s → Appends (Some old) other t → s ≡ t → new ≡ other
+same_text old None other s t one two is = absurd one
+same_text old (Some new) None s t one two is = absurd two
+same_text old (Some new) (Some other) s t one two is = ap Some (one ∙ ap (λ l. old ++ l) is ∙ sym two)
+
+-- the acts that were done before, and those of all events
+acts_went : (coming events : List HubEvent) (taken id ce : ℕ) (done : List (ℕ × Act)) (new : Option Held) → coming ≡ events
+    → Went (Some (holds coming taken done)) new (first_node id ce) events
+    → acts_held new ≡ Some (unnumbered done ++ unnumbered (acts_of taken (first_node id ce) coming))
+acts_went coming events taken id ce done new all (more, split, is) =
+    ap acts_held is ∙ ap Some (map-append (λ act. act.1) done (acts_of taken (first_node id ce) events))
+    ∙ ap (λ es. Some (unnumbered done ++ unnumbered (acts_of taken (first_node id ce) es))) (sym all)
+
+runs_alike : (one other : Result ElementEnd Stop) (limit id ce turns : ℕ) (document : List ℕ) (these those : List HubEvent) (taken : ℕ) (done : List (ℕ × Act)) (l k : Option (List ℕ)) (first second : Option Held)
+    (old : List ℕ) (new renewed : Option (List ℕ)) → MakeTheSame (first_node id ce) these those → IsRunOut one → IsRunOut other
+    → ElementEnds limit id ce turns one (Some document) l (Some (holds these taken done)) first (Some old) new
+    → ElementEnds limit id ce turns other (Some document) k (Some (holds those taken done)) second (Some old) renewed
+    → EndAlike one other first second new renewed
+runs_alike (Ok Done) (Ok Done) limit id ce turns document these those taken done l k first second old new renewed same a b (bytes, events, (seen, judged, (few, went, all)), wrote) (read, others, (looked, weighed, (less, goes, whole)), writes) =
+    record {
+      status = refl;
+      acts = acts_went these events taken id ce done first all went ∙ ap (λ acts. Some (unnumbered done ++ acts)) (same.acts taken) ∙ sym (acts_went those others taken id ce done second whole goes);
+      text = same_text old new renewed _ _ wrote writes
+          (ap (report_after id ce) (sym all) ∙ ap (λ n. report_of n.element) same.state ∙ ap (report_after id ce) whole);
+    }
+runs_alike (Ok Refused) (Ok Refused) limit id ce turns document these those taken done l k first second old new renewed same a b (bytes, events, (seen, judged, kept), wrote) (read, others, (looked, weighed, stays), writes) =
+    record {
+      status = refl;
+      acts = ap acts_held kept ∙ sym (ap acts_held stays);
+      text = same_text old new renewed _ _ wrote writes (ap (λ b. refused_text (library_of b)) (read_twice limit document bytes read l k seen looked));
+    }
+runs_alike (Ok TooLong) (Ok TooLong) limit id ce turns document these those taken done l k first second old new renewed same a b (bytes, events, (seen, judged, kept), wrote) (read, others, (looked, weighed, stays), writes) =
+    record {
+      status = refl;
+      acts = ap acts_held kept ∙ sym (ap acts_held stays);
+      text = same_text old new renewed _ _ wrote writes refl;
+    }
+runs_alike (Ok Done) (Ok Refused) limit id ce turns document these those taken done l k first second old new renewed same a b x y = absurd (library_or_none limit document x.0 y.0 l k x.2.0 y.2.0 x.2.1 y.2.1)
+runs_alike (Ok Done) (Ok TooLong) limit id ce turns document these those taken done l k first second old new renewed same a b x y = absurd (whole_long limit document x.0 y.0 l k x.2.0 y.2.0)
+runs_alike (Ok Refused) (Ok Done) limit id ce turns document these those taken done l k first second old new renewed same a b x y = absurd (library_or_none limit document y.0 x.0 k l y.2.0 x.2.0 y.2.1 x.2.1)
+runs_alike (Ok Refused) (Ok TooLong) limit id ce turns document these those taken done l k first second old new renewed same a b x y = absurd (whole_long limit document x.0 y.0 l k x.2.0 y.2.0)
+runs_alike (Ok TooLong) (Ok Done) limit id ce turns document these those taken done l k first second old new renewed same a b x y = absurd (whole_long limit document y.0 x.0 k l y.2.0 x.2.0)
+runs_alike (Ok TooLong) (Ok Refused) limit id ce turns document these those taken done l k first second old new renewed same a b x y = absurd (whole_long limit document y.0 x.0 k l y.2.0 x.2.0)
+runs_alike (Ok Turns) other limit id ce turns document these those taken done l k first second old new renewed same a b x y = absurd a
+runs_alike (Ok ReadFault) other limit id ce turns document these those taken done l k first second old new renewed same a b x y = absurd a
+runs_alike (Ok HubFault) other limit id ce turns document these those taken done l k first second old new renewed same a b x y = absurd a
+runs_alike (Err stop) other limit id ce turns document these those taken done l k first second old new renewed same a b x y = absurd a
+runs_alike (Ok Done) (Ok Turns) limit id ce turns document these those taken done l k first second old new renewed same a b x y = absurd b
+runs_alike (Ok Done) (Ok ReadFault) limit id ce turns document these those taken done l k first second old new renewed same a b x y = absurd b
+runs_alike (Ok Done) (Ok HubFault) limit id ce turns document these those taken done l k first second old new renewed same a b x y = absurd b
+runs_alike (Ok Done) (Err stop) limit id ce turns document these those taken done l k first second old new renewed same a b x y = absurd b
+runs_alike (Ok Refused) (Ok Turns) limit id ce turns document these those taken done l k first second old new renewed same a b x y = absurd b
+runs_alike (Ok Refused) (Ok ReadFault) limit id ce turns document these those taken done l k first second old new renewed same a b x y = absurd b
+runs_alike (Ok Refused) (Ok HubFault) limit id ce turns document these those taken done l k first second old new renewed same a b x y = absurd b
+runs_alike (Ok Refused) (Err stop) limit id ce turns document these those taken done l k first second old new renewed same a b x y = absurd b
+runs_alike (Ok TooLong) (Ok Turns) limit id ce turns document these those taken done l k first second old new renewed same a b x y = absurd b
+runs_alike (Ok TooLong) (Ok ReadFault) limit id ce turns document these those taken done l k first second old new renewed same a b x y = absurd b
+runs_alike (Ok TooLong) (Ok HubFault) limit id ce turns document these those taken done l k first second old new renewed same a b x y = absurd b
+runs_alike (Ok TooLong) (Err stop) limit id ce turns document these those taken done l k first second old new renewed same a b x y = absurd b
+
+pub cut_alike : (limit id ce turns : ℕ) (document : List ℕ) (before after : List HubEvent) (peer : ℕ) (front back : List ℕ) (taken : ℕ) (done : List (ℕ × Act)) (one other : Result ElementEnd Stop)
+    (l k : Option (List ℕ)) (first second : Option Held) (old : List ℕ) (new renewed : Option (List ℕ)) → IsRunOut one → IsRunOut other
+    → ElementEnds limit id ce turns one (Some document) l (Some (holds (before ++ Bytes peer front ∷ Bytes peer back ∷ after) taken done)) first (Some old) new
+    → ElementEnds limit id ce turns other (Some document) k (Some (holds (before ++ Bytes peer (front ++ back) ∷ after) taken done)) second (Some old) renewed
+    → EndAlike one other first second new renewed
+cut_alike limit id ce turns document before after peer front back taken done one other l k first second old new renewed a b x y =
+    runs_alike one other limit id ce turns document (before ++ Bytes peer front ∷ Bytes peer back ∷ after) (before ++ Bytes peer (front ++ back) ∷ after) taken done l k first second old new renewed
+    (run_alike id ce before after peer front back) a b x y
