@@ -126,3 +126,16 @@ module _ {X : Type 0} (key : X → List ℕ) where
 
   pub one_key : (m : Entries X) (ix : KeyMap) (s t : ℕ) (v w : X) → Indexes key m ix → get m s ≡ Some v → get m t ≡ Some w → key v ≡ key w → s ≡ t
   one_key m ix s t v w h e f k = some_is s t (sym (h.all s v e) ∙ ap (get ix) k ∙ h.all t w f)
+
+  -- ---- two indexes of the same entries
+  same_at : (m : Entries X) (ix jx : KeyMap) (q : List ℕ) (a b : Option ℕ) → Indexes key m ix → Indexes key m jx → get ix q ≡ a → get jx q ≡ b → a ≡ b
+  same_at m ix jx q None None h k e f = refl
+  same_at m ix jx q (Some s) b h k e f =
+      let x : (x : X) × (get m s ≡ Some x) × (key x ≡ q) = h.found q s e in
+      sym (k.all s x.0 x.1) ∙ ap (get jx) x.2 ∙ f
+  same_at m ix jx q None (Some t) h k e f =
+      let x : (x : X) × (get m t ≡ Some x) × (key x ≡ q) = k.found q t f in
+      sym e ∙ ap (get ix) (sym x.2) ∙ h.all t x.0 x.1
+
+  pub one_index : (m : Entries X) (ix jx : KeyMap) → Indexes key m ix → Indexes key m jx → ix ≡ jx
+  one_index m ix jx h k = same_map nat_list_cmp_total (slice_cmp-IsAntisymmetric nat_cmp-IsAntisymmetric) ix jx (λ q. same_at m ix jx q _ _ h k refl refl)

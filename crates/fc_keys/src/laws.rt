@@ -19,3 +19,8 @@ pub fn index_stays_that_of_its_entries<X>()
 pub fn indexed_entries_have_different_keys<X>()
     ensures { (key : X → List ℕ) (entries : Entries X) (index : KeyMap) (s t : ℕ) (x y : X) → Indexes key entries index → map.get entries s ≡ Some x → map.get entries t ≡ Some y → key x ≡ key y → s ≡ t }
 {}
+
+/// Entries have one index at most.
+pub fn entries_have_one_index<X>()
+    ensures { (key : X → List ℕ) (entries : Entries X) (index other : KeyMap) → Indexes key entries index → Indexes key entries other → index ≡ other }
+{}

@@ -1,16 +1,18 @@
 // Laws of selects and their spellings.
-ghost use Rattle.std.specs.Prelude.{◌≡◌, ◌+◌, ◌++◌, ◌%◌, ◌<◌, ◌≤◌, ◌⊎◌, ◌↔◌, List, ℕ, length, Ok, Err, true};
+ghost use Rattle.std.specs.Prelude.{◌≡◌, ◌+◌, ◌++◌, ◌%◌, ◌<◌, ◌≤◌, ◌⊎◌, ◌↔◌, List, ℕ, suc, length, Ok, Err, true};
 ghost use Rattle.std.specs.List.{AllByRecursion};
 ghost use Rattle.fc_wire.specs.Bytes.{AreBytes};
 ghost use Rattle.fc_wire.specs.Tiling.{in_front};
 ghost use Rattle.fc_wire.specs.Tlvs.{TlvItem, Lent, tlvs};
 ghost use Rattle.fc_path.specs.Canon.{select_written};
 ghost use Rattle.fc_path.specs.Grammar.{IsSelect, IsSelectOf};
+ghost use Rattle.fc_path.specs.Heads.{path_by_head};
 ghost use Rattle.fc_path.specs.Proper.{ProperSelect};
-ghost use Rattle.fc_path.specs.Reading.{select_at};
+ghost use Rattle.fc_path.specs.Reading.{path_at, select_at};
 ghost use Rattle.fc_path.specs.Visits.{IsGood, FirstBad, AreRising, select_visits};
 ghost use Rattle.fc_path.specs.declared.fault.PathFault.{PathFault};
 ghost use Rattle.fc_path.specs.declared.fault.PathFault.TheVariants.{Memory};
+ghost use Rattle.fc_path.specs.declared.oper.OperKind.{OperKind};
 ghost use Rattle.fc_path.specs.declared.oper.Select.{Select};
 
 /// A TLV is at most one select, and the same bytes are at most one.
@@ -43,4 +45,10 @@ pub fn faults_are_in_reading_order()
     ensures first { (message : ℕ) (tlv : TlvItem) (fault : PathFault) → (select_at message tlv ≡ Err fault) ↔ FirstBad fault (select_visits message tlv) }
     ensures rising { (message : ℕ) (tlv : TlvItem) → Lent tlv → AreBytes tlv.padded → AreRising tlv.place (select_visits message tlv) }
     ensures read { (message : ℕ) (tlv : TlvItem) → ((s : Select) × (select_at message tlv ≡ Ok s)) ↔ AllByRecursion IsGood (select_visits message tlv) }
+{}
+
+/// A PATH-DATA, below which so many levels less one may stand, is its head and then its body: reading gives the first fault of
+/// the head, else that of the body, else the two together.
+pub fn a_path_is_its_head_and_its_body()
+    ensures { (kind : OperKind) (depth : ℕ) (tlv : TlvItem) → path_at kind (suc depth) tlv ≡ path_by_head kind depth tlv }
 {}

@@ -18,8 +18,8 @@ pub use fault::PathFault;
 pub use heads::{Ids, KeyRef, PathHead};
 pub use kinds::{Operation, holds_selects, operation_for};
 pub use laws::{
-    faults_are_in_reading_order, reading_is_the_grammar, selects_are_unique,
-    written_selects_are_read,
+    a_path_is_its_head_and_its_body, faults_are_in_reading_order, reading_is_the_grammar,
+    selects_are_unique, written_selects_are_read,
 };
 pub use oper::{Leaf, Oper, OperKind, Select, Spot, Step};
 pub use path::{Body, Key, PathData};

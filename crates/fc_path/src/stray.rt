@@ -1,7 +1,9 @@
 // TLVs that may not stand where they do.
 ghost use Rattle.std.specs.Prelude.{◌≡◌};
+ghost use Rattle.std.specs.Result.{IsErrOf};
 ghost use Rattle.fc_path.specs.Kinds.{is_known as known, in_select};
 ghost use Rattle.fc_path.specs.Stray.{Gives, misplaced as is_misplaced, beside as is_beside, trailing as is_trailing, shut};
+ghost use Rattle.fc_path.specs.declared.fault.PathFault.TheVariants.{Memory};
 
 use crate::PathFault;
 use fc_wire::{SELECT, Tlv, Tlvs};
@@ -75,7 +77,8 @@ pub fn no_more_bodies(mut tlvs: Tlvs) -> Result<(), PathFault>
 
 /// That nothing stands behind the only TLV that may stand here.
 pub fn no_more(mut tlvs: Tlvs) -> Result<(), PathFault>
-    ensures { Gives result (shut is_trailing tlvs.entry.items tlvs.entry.fault) }
+    ensures exact { Gives result (shut is_trailing tlvs.entry.items tlvs.entry.fault) }
+    ensures sure { IsErrOf result Memory → ⊥ }
 {
     match tlvs.next() {
         None => Ok(()),

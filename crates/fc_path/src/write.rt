@@ -11,8 +11,8 @@ ghost use Rattle.fc_path.specs.Canon.{Pushed, plain, wrapped, joined, ilv_writte
 use crate::{Body, Key, Oper, PathData, Select};
 use fc_base::{Code, Memory, WriteFault};
 use fc_wire::{
-    COMMIT, COMMIT_RESPONSE, FULL_DATA, Ilv, KEY_INFO, PATH_DATA, RESULT, SELECT, SPARSE_DATA, TRCOMP,
-    TlvWriter,
+    COMMIT, COMMIT_RESPONSE, FULL_DATA, Ilv, KEY_INFO, PATH_DATA, RESULT, SELECT, SPARSE_DATA,
+    TRCOMP, TlvWriter,
 };
 
 /// Puts IDs, each in four bytes.
