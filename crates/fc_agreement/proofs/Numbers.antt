@@ -426,7 +426,7 @@ module _ (net : Network) (ss : List Step) where
       let b = run_tied x ps more world a.0 all a.2 in
       let now : Mirrors x (moves x.epoch ps a.1.0 start) world = subst (λ (c : Core). Mirrors x c world) (sym a.1.1) (mirrors x ps world a.0 a.2) in
       let then : Mirrors x (moves x.epoch ps b.1.0 (moves x.epoch ps a.1.0 start)) v = subst (λ (c : Core). Mirrors x c v) (sym (ap (moves x.epoch ps b.1.0) a.1.1 ∙ b.1.1)) (mirrors x ps v b.0 b.2) in
-      (ps, a.1.0, b.1.0, now, then)
+      (ps, all, a.1.0, b.1.0, now, then)
 
   pub floors_settle_law : FloorsSettle world
   floors_settle_law x f p q k m = below_settled x (parts_of x world.begun) world (goes x) f p q k m

@@ -64,12 +64,13 @@ abbrev pub Mirrors : Txn → Core → World → Type 0
 Mirrors x c w =
     ((p : ℕ) → ((c.at p).epoch ≡ (w.at p).epoch) × (is_below x (w.at p).floor ≡ false → (c.at p).state ≡ seen (state_of x (w.at p).records)))
     × ((p : ℕ) (d : Decision) → (In (Settled_at p x d) w.facts → (c.at p).state ≡ seen (Some (end_of d))) × ((c.at p).state ≡ seen (Some (end_of d)) → In (Settled_at p x d) w.facts))
+    × ((p : ℕ) → (c.at p).prepared ≡ true → In (Prepared_at p x) w.facts)
     × ((k : ℕ) (m : Master) → w.masters k ≡ Some m → c.decided m.epoch ≡ decision_of (find x m.jobs))
 
 -- whatever has happened until w, and from there until v, is, for each transaction, a list of moves of its core
 abbrev pub FollowsCore : World → World → Type 0
 FollowsCore w v =
-    (x : Txn) → (parts : List ℕ) × (until since : List Move) × Mirrors x (moves x.epoch parts until start) w × Mirrors x (moves x.epoch parts since (moves x.epoch parts until start)) v
+    (x : Txn) → (parts : List ℕ) × ((b : Begun) → In b v.begun → b.txn ≡ x → b.parts ≡ parts) × (until since : List Move) × Mirrors x (moves x.epoch parts until start) w × Mirrors x (moves x.epoch parts since (moves x.epoch parts until start)) v
 
 -- where a life has sent a floor, what is below it is held nowhere, and each element that has opened such a transaction has settled it
 abbrev pub FloorsSettle : World → Type 0
@@ -79,7 +80,7 @@ FloorsSettle w =
 
 -- where a life has sent a floor, every element has reached that life's epoch
 abbrev pub FloorsReach : World → Type 0
-FloorsReach w = (f : Txn) (p q k : ℕ) (m : Stamp) → In (sent q k (Request m (Floor f))) w.sent → among p w.network.elements ≡ true → f.epoch ≤ (w.at p).epoch
+FloorsReach w = (f : Txn) (p q k : ℕ) (m : Stamp) → In (sent q k (Request m (Floor f))) w.sent → among p w.network.elements ≡ true → (f.epoch ≡ m.life) × (m.life ≤ (w.at p).epoch)
 
 -- where a running master's life has sent a floor, every element has answered it
 abbrev pub FloorsAnswered : World → Type 0
