@@ -253,8 +253,8 @@ module _ (x : Txn) (parts : List ℕ) where
       state_born (n ∷ ns) s h d a r = ⊎_elim (λ v. (a.0 (sym (same_true x n.txn v))).2.3) (λ v. state_born ns s h d a.1 (sym (cond_false (same x n.txn) (Some n.state) (state_of x ns) v) ∙ r)) (both (same x n.txn))
 
   -- all numbers fit in their 32 bits
-  pub bounded : (w : World) → Bound w → Bounded w
-  bounded w u =
+  pub bounded : (w : World) → Bound w → ((b : Begun) → In b w.begun → (b.txn.epoch < 2 ^ 32) × (b.txn.number < 2 ^ 32)) → ((p : ℕ) (n : TxnEntry) → In n (w.at p).records → (n.txn.epoch < 2 ^ 32) × (n.txn.number < 2 ^ 32)) → Bounded w
+  bounded w u begun_low record_low =
       let c = u.0 in
       let t = u.1 in (
         (λ p k m b i.
@@ -291,4 +291,6 @@ module _ (x : Txn) (parts : List ℕ) where
                   let b : (m.at p).queries ≤ last_count = l.1 in
                   (omega arith, omega arith)),
             )),
+        begun_low,
+        record_low,
       )

@@ -11,6 +11,7 @@ use Rattle.fc_protocol.specs.OneElement.{end_of}
 use Rattle.fc_protocol.specs.Records.{seen, state_of, is_held}
 use Rattle.fc_protocol.specs.Trace.{Fact, Opened_at, Prepared_at, Settled_at}
 use Rattle.fc_protocol.specs.WorldSteps.{World, Begun}
+use Rattle.fc_protocol.specs.declared.answers.TxnEntry.{TxnEntry}
 use Rattle.fc_protocol.specs.declared.states.Decision.{Decision}
 use Rattle.fc_protocol.specs.declared.states.Decision.TheVariants.{Complete, Abort}
 use Rattle.fc_protocol.specs.declared.states.TxnState.{TxnState}
@@ -90,7 +91,7 @@ FloorsAnswered w = (f : Txn) (p q j k : ℕ) (m : Master) (n : Stamp) → w.mast
 abbrev pub AtRest : World → Type 0
 AtRest w = (k : ℕ) (m : Master) → w.masters k ≡ Some m → finish k m ≡ record { master = m; says = [] }
 
--- the halves of the correlator of a request, the parts of a floor that is sent or kept, and the epochs, sequences and counts of elements and of running masters fit in their 32 bits
+-- the halves of the correlator of a request, the parts of a floor that is sent or kept, of a transaction that was begun and of one of which there is a record, and the epochs, sequences and counts of elements and of running masters fit in their 32 bits
 abbrev pub Bounded : World → Type 0
 Bounded w =
     ((p k : ℕ) (m : Stamp) (b : Body) → In (sent p k (Request m b)) w.sent → (m.life < 2 ^ 32) × (m.count < 2 ^ 32))
@@ -98,3 +99,5 @@ Bounded w =
     × ((p k : ℕ) (m : Stamp) (f : Txn) → In (sent p k (Request m (Floor f))) w.sent → (f.epoch < 2 ^ 32) × (f.number < 2 ^ 32))
     × ((p : ℕ) (f : Txn) → (w.at p).floor ≡ Some f → (f.epoch < 2 ^ 32) × (f.number < 2 ^ 32))
     × ((k : ℕ) (m : Master) → w.masters k ≡ Some m → (m.epoch < 2 ^ 32) × (m.begun < 2 ^ 32) × ((p : ℕ) → ((m.at p).last < 2 ^ 32) × ((m.at p).queries < 2 ^ 32)))
+    × ((b : Begun) → In b w.begun → (b.txn.epoch < 2 ^ 32) × (b.txn.number < 2 ^ 32))
+    × ((p : ℕ) (n : TxnEntry) → In n (w.at p).records → (n.txn.epoch < 2 ^ 32) × (n.txn.number < 2 ^ 32))
