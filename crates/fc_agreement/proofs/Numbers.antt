@@ -5,7 +5,7 @@ use Rattle.fc_protocol.specs.Collections.{put, among}
 use Rattle.fc_agreement.specs.Core.{Core, moves, start}
 use Rattle.fc_protocol.specs.ElementMachine.{Circumstance}
 use Rattle.fc_protocol.specs.Jobs.{discover, on_job, answered_by, answer, all_settled, Job}
-use Rattle.fc_protocol.specs.MasterMachine.{after_ask, dropped, Refusal, begin_refusal, plain_refusal, give_up_refusal, forget_refusal, forgets, unread_told, Waiting, Master, new_master, at_put, due, sends_one, sends_all, heard, matches, coded, by_epoch, depose, is_lower, unmatched, held_by, held_told, record_by, record_told, begins, gives_up, decide_all, finish, Speaks}
+use Rattle.fc_protocol.specs.MasterMachine.{last_count, after_ask, dropped, Refusal, begin_refusal, plain_refusal, give_up_refusal, forget_refusal, forgets, unread_told, Waiting, Master, new_master, at_put, due, sends_one, sends_all, heard, matches, coded, by_epoch, depose, is_lower, unmatched, held_by, held_told, record_by, record_told, begins, gives_up, decide_all, finish, Speaks}
 use Rattle.fc_protocol.specs.Messages.{Floor, Malformed, Beat, Unread, sent, same, Body, Claim, Sot, Mot, Eot, Trcomp, Abt, Ask, Ask_record, Plain, Message, Setup, Request, Reply, Holds, Tells, Other_up, Other_down, Sent}
 use Rattle.fc_protocol.specs.WorldSteps.{Open, Give_up, Network, controller_of, World, Begun, Step, Deliver, Moment, Start, Stop, Begin, Change, Resend, Forget, forget_by, forget_at, Restart, restarts, murmurs, says, numbered, may_start, begin_by, give_up_by, change_by, change_at, first_world, with_begun, speaks, to_master, delivered, delivers, starts, begin_at, give_up_at, resend_at, happens, run}
 use Rattle.fc_protocol.specs.Scopes.{Scope}
@@ -13,11 +13,11 @@ use Rattle.fc_protocol.specs.declared.answers.TxnEntry.{TxnEntry}
 use Rattle.fc_protocol.specs.declared.states.Seen.{Seen}
 use Rattle.fc_base.specs.Ids.{Txn}
 use Rattle.fc_protocol.proofs.Puts.{put_here, both_first, both_second}
-use Rattle.fc_protocol.proofs.Basics.{In, both, cond_true, same_true, same_of, put_rest}
+use Rattle.fc_protocol.proofs.Basics.{In, all_in, both, cond_true, same_true, same_of, put_rest}
 use Rattle.fc_protocol.proofs.Order.{under_is}
-use Rattle.fc_agreement.proofs.Facts.{Past, Lives, Named}
+use Rattle.fc_agreement.proofs.Facts.{Past, past, Lives, Named, EntryFine}
 use Rattle.fc_agreement.proofs.Hears.{cond_all}
-use Rattle.fc_agreement.proofs.Calls.{may_begin}
+use Rattle.fc_agreement.proofs.Calls.{begin_low, may_begin}
 use Rattle.fc_agreement.proofs.Calm.{LifeCalm, calm_finishes, all_calm}
 use Rattle.fc_agreement.proofs.Binding.{same_life, fresh_life, may_start_is, first_tied}
 use Rattle.fc_agreement.proofs.Runs.{Bound, run_tied, agrees, settles_once, readies, opens_alike, settled_there, says_apart, says_decided, begun_run, mirrors, below_settled, floor_reached, floor_answered, floor_life, bounded}
@@ -123,6 +123,7 @@ pub record Ids (w : World) : Type 0 where
   pub owners : (b : Begun) → In b w.begun → (k : ℕ) × Lives (at_start w) k b.txn.epoch
   pub once : (a b : Begun) → In a w.begun → In b w.begun → a.txn ≡ b.txn → a.parts ≡ b.parts
   pub single : Singles w.begun
+  pub low : (b : Begun) → In b w.begun → b.txn.number ≤ last_count
 
 alike_numbered : (h : Past) (k : ℕ) (m n : Master) → Alike m n → Numbered h k m → Numbered h k n
 alike_numbered h k m n a f = record { life = subst (Lives h k) (sym a.0) f.life; numbers = λ b i e. subst (λ v. b.txn.number ≤ v) (sym a.1) (f.numbers b i (e ∙ a.0)) }
@@ -133,6 +134,7 @@ speaks_ids w k m n r first i e a b = record {
   owners = i.owners;
   once = i.once;
   single = i.single;
+  low = i.low;
   inside = i.inside;
   manned = put_rest (λ _. Manned w.network.elements) w.masters k (Some r.master) (b.2 ∙ a.2 ∙ subst (Manned w.network.elements) e (i.manned k)) (λ j _. i.manned j);
 }
@@ -143,14 +145,14 @@ to_master_ids w p k t (Some m) i e = speaks_ids w k m (heard m p t) _ _ i e (hea
 
 delivered_ids : (w : World) (ok : Circumstance) (p k : ℕ) (t : Message) → Ids w → Ids (delivered w ok p k t)
 delivered_ids w ok p k Setup i = to_master_ids w p k Setup (w.masters k) i refl
-delivered_ids w ok p k (Request s b) i = record { lives = i.lives; owners = i.owners; once = i.once; single = i.single; inside = i.inside; manned = i.manned }
+delivered_ids w ok p k (Request s b) i = record { lives = i.lives; owners = i.owners; once = i.once; single = i.single; low = i.low; inside = i.inside; manned = i.manned }
 delivered_ids w ok p k (Reply s b) i = to_master_ids w p k (Reply s b) (w.masters k) i refl
 delivered_ids w ok p k (Holds s e b) i = to_master_ids w p k (Holds s e b) (w.masters k) i refl
 delivered_ids w ok p k (Tells s z e b) i = to_master_ids w p k (Tells s z e b) (w.masters k) i refl
 delivered_ids w ok p k Beat i = to_master_ids w p k Beat (w.masters k) i refl
 delivered_ids w ok p k (Unread s e) i = to_master_ids w p k (Unread s e) (w.masters k) i refl
 delivered_ids w ok p k Other_up i = to_master_ids w p k Other_up (w.masters k) i refl
-delivered_ids w ok p k Other_down i = record { lives = i.lives; owners = i.owners; once = i.once; single = i.single; inside = i.inside; manned = i.manned }
+delivered_ids w ok p k Other_down i = record { lives = i.lives; owners = i.owners; once = i.once; single = i.single; low = i.low; inside = i.inside; manned = i.manned }
 
 delivers_ids : (w : World) (ok : Circumstance) (o : Option Sent) → Ids w → Ids (delivers w ok o)
 delivers_ids w ok None i = i
@@ -174,6 +176,7 @@ start_ids w k r small few new i = record {
   owners = λ b n. let v = i.owners b n in (v.0, used_on w k r v.0 b.txn.epoch v.1);
   once = i.once;
   single = i.single;
+  low = i.low;
   inside = i.inside;
   manned = put_rest (λ _. Manned w.network.elements) w.masters k (Some (new_master (256 * r + k) w.network.elements)) refl (λ j _. i.manned j);
 }
@@ -205,6 +208,7 @@ begin_by_ids w k ps changes scopes m None q i e =
       once = λ a c u v s. ⊎_elim (λ y. ⊎_elim (λ z. ap (λ (t : Begun). t.parts) (y ∙ sym z)) (λ z. absurd (clash c z (sym s ∙ ap (λ (t : Begun). t.txn) y))) v)
           (λ y. ⊎_elim (λ z. absurd (clash a y (s ∙ ap (λ (t : Begun). t.txn) z))) (λ z. i.once a c y z s) v) u;
       single = (clash, i.single);
+      low = λ a u. ⊎_elim (λ s. let t : a.txn.number ≡ m.begun + 1 = ap (λ (z : Begun). z.txn.number) s in let k : m.begun + 1 ≤ last_count = begin_low m ps changes scopes q in omega arith) (λ s. i.low a s) u;
       inside = λ a u p v. ⊎_elim (λ s. ap (among p) (sym manned) ∙ ((may_begin m ps changes scopes q).free p (ap (λ (t : Begun). among p t.parts) (sym s) ∙ v)).inside) (λ s. i.inside a s p v) u;
       manned = put_rest (λ _. Manned w.network.elements) w.masters k (Some r.master) ((finish_alike k n).2 ∙ manned) (λ j _. i.manned j);
     }
@@ -231,7 +235,7 @@ forget_ids w k (Some m) i e = forget_by_ids w k m (forget_refusal m) i e
 
 resend_ids : (w : World) (k p : ℕ) (o : Option Master) → Ids w → Ids (resend_at w k p o)
 resend_ids w k p None i = i
-resend_ids w k p (Some m) i = record { lives = i.lives; owners = i.owners; once = i.once; single = i.single; inside = i.inside; manned = i.manned }
+resend_ids w k p (Some m) i = record { lives = i.lives; owners = i.owners; once = i.once; single = i.single; low = i.low; inside = i.inside; manned = i.manned }
 
 change_by_ids : (w : World) (k p : ℕ) (m : Master) (r : Option Refusal) → Ids w → w.masters k ≡ Some m → Ids (change_by w k p m r)
 change_by_ids w k p m (Some r) i e = i
@@ -242,7 +246,7 @@ change_ids w k p None i e = i
 change_ids w k p (Some m) i e = change_by_ids w k p m (plain_refusal m p) i e
 
 says_ids : (w : World) (ss : List Sent) → Ids w → Ids (says w ss)
-says_ids w ss i = record { lives = i.lives; owners = i.owners; once = i.once; single = i.single; inside = i.inside; manned = i.manned }
+says_ids w ss i = record { lives = i.lives; owners = i.owners; once = i.once; single = i.single; low = i.low; inside = i.inside; manned = i.manned }
 
 happens_ids : (w : World) (s : Step) → Ids w → Ids (happens w s)
 happens_ids w (Open p k) i = cond_all Ids (among p w.network.elements && is_some (controller_of w.network.controllers k)) (says w (sent p k Setup ∷ [])) w (λ _. says_ids w _ i) (λ _. i)
@@ -250,19 +254,19 @@ happens_ids w (Moment p ks) i = cond_all Ids (among p w.network.elements) (says 
 happens_ids w (Change k p) i = change_ids w k p (w.masters k) i refl
 happens_ids w (Deliver n ok) i = delivers_ids w ok (numbered w.sent n) i
 happens_ids w (Start k r) i = cond_all Ids (may_start w k r) (starts w k r) w (λ e. let v = may_start_is w k r e in start_ids w k r v.0 v.1 v.2 i) (λ _. i)
-happens_ids w (Stop k) i = record { lives = put_rest (LifeNumbered (at_start w)) w.masters k None tt (λ j _. i.lives j); owners = i.owners; once = i.once; single = i.single; inside = i.inside; manned = put_rest (λ _. Manned w.network.elements) w.masters k None tt (λ j _. i.manned j) }
+happens_ids w (Stop k) i = record { lives = put_rest (LifeNumbered (at_start w)) w.masters k None tt (λ j _. i.lives j); owners = i.owners; once = i.once; single = i.single; low = i.low; inside = i.inside; manned = put_rest (λ _. Manned w.network.elements) w.masters k None tt (λ j _. i.manned j) }
 happens_ids w (Begin k ps changes scopes) i = begin_ids w k ps changes scopes (w.masters k) i refl
 happens_ids w (Give_up k y) i = give_up_ids w k y (w.masters k) i refl
 happens_ids w (Resend k p) i = resend_ids w k p (w.masters k) i
 happens_ids w (Forget k) i = forget_ids w k (w.masters k) i refl
-happens_ids w (Restart p) i = cond_all Ids (among p w.network.elements) (restarts w p) w (λ _. record { lives = i.lives; owners = i.owners; once = i.once; single = i.single; inside = i.inside; manned = i.manned }) (λ _. i)
+happens_ids w (Restart p) i = cond_all Ids (among p w.network.elements) (restarts w p) w (λ _. record { lives = i.lives; owners = i.owners; once = i.once; single = i.single; low = i.low; inside = i.inside; manned = i.manned }) (λ _. i)
 
 run_ids : (ss : List Step) (w : World) → Ids w → Ids (run ss w)
 run_ids [] w i = i
 run_ids (s ∷ ss) w i = run_ids ss (happens w s) (happens_ids w s i)
 
 first_ids : (net : Network) → Ids (first_world net)
-first_ids net = record { lives = λ _. tt; owners = λ b i. absurd i; once = λ a b i. absurd i; single = tt; inside = λ b i. absurd i; manned = λ _. tt }
+first_ids net = record { lives = λ _. tt; owners = λ b i. absurd i; once = λ a b i. absurd i; single = tt; low = λ b i. absurd i; inside = λ b i. absurd i; manned = λ _. tt }
 
 -- the network stays as it is
 to_master_net : (w : World) (p k : ℕ) (t : Message) (o : Option Master) → (to_master w p k t o).network ≡ w.network
@@ -426,7 +430,7 @@ module _ (net : Network) (ss : List Step) where
       let b = run_tied x ps more world a.0 all a.2 in
       let now : Mirrors x (moves x.epoch ps a.1.0 start) world = subst (λ (c : Core). Mirrors x c world) (sym a.1.1) (mirrors x ps world a.0 a.2) in
       let then : Mirrors x (moves x.epoch ps b.1.0 (moves x.epoch ps a.1.0 start)) v = subst (λ (c : Core). Mirrors x c v) (sym (ap (moves x.epoch ps b.1.0) a.1.1 ∙ b.1.1)) (mirrors x ps v b.0 b.2) in
-      (ps, a.1.0, b.1.0, now, then)
+      (ps, all, a.1.0, b.1.0, now, then)
 
   pub floors_settle_law : FloorsSettle world
   floors_settle_law x f p q k m = below_settled x (parts_of x world.begun) world (goes x) f p q k m
@@ -444,5 +448,24 @@ module _ (net : Network) (ss : List Step) where
   pub at_rest_law : AtRest world
   at_rest_law k m e = calm_finishes k m (subst LifeCalm e (all_calm net ss k))
 
+  -- the parts of a transaction that was begun fit in their 32 bits
+  begun_low : (b : Begun) → In b world.begun → (b.txn.epoch < 2 ^ 32) × (b.txn.number < 2 ^ 32)
+  begun_low b i =
+      let v = ids.owners b i in
+      let l = v.1 in
+      let e : b.txn.epoch ≡ 256 * l.0 + v.0 = l.2 in
+      let k : v.0 < 256 = l.3 in
+      let r : l.0 < 2 ^ 24 = l.4 in
+      let n : b.txn.number ≤ last_count = ids.low b i in
+      (omega arith, omega arith)
+
+  -- and so do those of one of which there is a record, since it was begun
+  record_low : (p : ℕ) (n : TxnEntry) → In n (world.at p).records → (n.txn.epoch < 2 ^ 32) × (n.txn.number < 2 ^ 32)
+  record_low p n i =
+      let ps = parts_of n.txn world.begun in
+      let g = goes n.txn in
+      let b = (all_in (EntryFine n.txn ps (past world g.0) (world.at p).epoch) n (world.at p).records (g.1.elements p).entries i refl).2 in
+      subst (λ (z : Txn). (z.epoch < 2 ^ 32) × (z.number < 2 ^ 32)) b.2 (begun_low b.0 b.1)
+
   pub bounded_law : Bounded world
-  bounded_law = let y : Txn = record { epoch = 0; number = 0 } in bounded y (parts_of y world.begun) world (goes y)
+  bounded_law = let y : Txn = record { epoch = 0; number = 0 } in bounded y (parts_of y world.begun) world (goes y) begun_low record_low

@@ -175,6 +175,7 @@ module _ (x : Txn) (parts : List ℕ) where
   mirrors w c t = (
     (λ p. (sym (t.elements p).epoch, λ b. sym ((t.elements p).state b))),
     (λ p d. ((λ i. (t.marks p).settled d i ∙ sym (ended d)), (λ e. (t.marks p).ended d (e ∙ ended d)))),
+    (λ p. (t.marks p).prepared),
     (λ k m e. (master_is x parts (past w c) k (w.masters k) m e (t.masters k)).jobs.decided),
   )
     where
@@ -200,14 +201,14 @@ module _ (x : Txn) (parts : List ℕ) where
       let g : RequestFine x parts (past w c) k q m (Floor f) = t.sent (sent q k (Request m (Floor f))) i in
       ⊎_elim (λ l. (g.means.1 u n p (live_in x.epoch parts c p t.reached l)).shut.0) (λ l. l) (both (is_live (c.at p).state))
 
-  pub floor_reached : (w : World) → Bound w → (f : Txn) (p q k : ℕ) (m : Stamp) → In (sent q k (Request m (Floor f))) w.sent → among p w.network.elements ≡ true → f.epoch ≤ (w.at p).epoch
+  pub floor_reached : (w : World) → Bound w → (f : Txn) (p q k : ℕ) (m : Stamp) → In (sent q k (Request m (Floor f))) w.sent → among p w.network.elements ≡ true → (f.epoch ≡ m.life) × (m.life ≤ (w.at p).epoch)
   floor_reached w b f p q k m i a =
       let c = b.0 in
       let g : RequestFine x parts (past w c) k q m (Floor f) = b.1.sent (sent q k (Request m (Floor f))) i in
       let at : f.epoch ≡ m.life = g.means.0 in
       let up : m.life ≤ (c.at p).epoch = g.means.3 p a in
       let same_epoch : (w.at p).epoch ≡ (c.at p).epoch = (b.1.elements p).epoch in
-      omega arith
+      (at, omega arith)
 
   -- while the life of a floor runs, each of its elements has answered it; here x is below the floor
   pub floor_answered : (w : World) → Bound w → (f : Txn) (p q j k : ℕ) (m : Master) (n : Stamp) → w.masters k ≡ Some m → In (sent q j (Request n (Floor f))) w.sent → n.life ≡ m.epoch → is_under x f ≡ true → among p m.elements ≡ true → (m.at p).answered ≡ true
@@ -252,8 +253,8 @@ module _ (x : Txn) (parts : List ℕ) where
       state_born (n ∷ ns) s h d a r = ⊎_elim (λ v. (a.0 (sym (same_true x n.txn v))).2.3) (λ v. state_born ns s h d a.1 (sym (cond_false (same x n.txn) (Some n.state) (state_of x ns) v) ∙ r)) (both (same x n.txn))
 
   -- all numbers fit in their 32 bits
-  pub bounded : (w : World) → Bound w → Bounded w
-  bounded w u =
+  pub bounded : (w : World) → Bound w → ((b : Begun) → In b w.begun → (b.txn.epoch < 2 ^ 32) × (b.txn.number < 2 ^ 32)) → ((p : ℕ) (n : TxnEntry) → In n (w.at p).records → (n.txn.epoch < 2 ^ 32) × (n.txn.number < 2 ^ 32)) → Bounded w
+  bounded w u begun_low record_low =
       let c = u.0 in
       let t = u.1 in (
         (λ p k m b i.
@@ -290,4 +291,6 @@ module _ (x : Txn) (parts : List ℕ) where
                   let b : (m.at p).queries ≤ last_count = l.1 in
                   (omega arith, omega arith)),
             )),
+        begun_low,
+        record_low,
       )

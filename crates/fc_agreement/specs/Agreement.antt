@@ -11,6 +11,7 @@ use Rattle.fc_protocol.specs.OneElement.{end_of}
 use Rattle.fc_protocol.specs.Records.{seen, state_of, is_held}
 use Rattle.fc_protocol.specs.Trace.{Fact, Opened_at, Prepared_at, Settled_at}
 use Rattle.fc_protocol.specs.WorldSteps.{World, Begun}
+use Rattle.fc_protocol.specs.declared.answers.TxnEntry.{TxnEntry}
 use Rattle.fc_protocol.specs.declared.states.Decision.{Decision}
 use Rattle.fc_protocol.specs.declared.states.Decision.TheVariants.{Complete, Abort}
 use Rattle.fc_protocol.specs.declared.states.TxnState.{TxnState}
@@ -64,12 +65,13 @@ abbrev pub Mirrors : Txn → Core → World → Type 0
 Mirrors x c w =
     ((p : ℕ) → ((c.at p).epoch ≡ (w.at p).epoch) × (is_below x (w.at p).floor ≡ false → (c.at p).state ≡ seen (state_of x (w.at p).records)))
     × ((p : ℕ) (d : Decision) → (In (Settled_at p x d) w.facts → (c.at p).state ≡ seen (Some (end_of d))) × ((c.at p).state ≡ seen (Some (end_of d)) → In (Settled_at p x d) w.facts))
+    × ((p : ℕ) → (c.at p).prepared ≡ true → In (Prepared_at p x) w.facts)
     × ((k : ℕ) (m : Master) → w.masters k ≡ Some m → c.decided m.epoch ≡ decision_of (find x m.jobs))
 
 -- whatever has happened until w, and from there until v, is, for each transaction, a list of moves of its core
 abbrev pub FollowsCore : World → World → Type 0
 FollowsCore w v =
-    (x : Txn) → (parts : List ℕ) × (until since : List Move) × Mirrors x (moves x.epoch parts until start) w × Mirrors x (moves x.epoch parts since (moves x.epoch parts until start)) v
+    (x : Txn) → (parts : List ℕ) × ((b : Begun) → In b v.begun → b.txn ≡ x → b.parts ≡ parts) × (until since : List Move) × Mirrors x (moves x.epoch parts until start) w × Mirrors x (moves x.epoch parts since (moves x.epoch parts until start)) v
 
 -- where a life has sent a floor, what is below it is held nowhere, and each element that has opened such a transaction has settled it
 abbrev pub FloorsSettle : World → Type 0
@@ -79,7 +81,7 @@ FloorsSettle w =
 
 -- where a life has sent a floor, every element has reached that life's epoch
 abbrev pub FloorsReach : World → Type 0
-FloorsReach w = (f : Txn) (p q k : ℕ) (m : Stamp) → In (sent q k (Request m (Floor f))) w.sent → among p w.network.elements ≡ true → f.epoch ≤ (w.at p).epoch
+FloorsReach w = (f : Txn) (p q k : ℕ) (m : Stamp) → In (sent q k (Request m (Floor f))) w.sent → among p w.network.elements ≡ true → (f.epoch ≡ m.life) × (m.life ≤ (w.at p).epoch)
 
 -- where a running master's life has sent a floor, every element has answered it
 abbrev pub FloorsAnswered : World → Type 0
@@ -89,7 +91,7 @@ FloorsAnswered w = (f : Txn) (p q j k : ℕ) (m : Master) (n : Stamp) → w.mast
 abbrev pub AtRest : World → Type 0
 AtRest w = (k : ℕ) (m : Master) → w.masters k ≡ Some m → finish k m ≡ record { master = m; says = [] }
 
--- the halves of the correlator of a request, the parts of a floor that is sent or kept, and the epochs, sequences and counts of elements and of running masters fit in their 32 bits
+-- the halves of the correlator of a request, the parts of a floor that is sent or kept, of a transaction that was begun and of one of which there is a record, and the epochs, sequences and counts of elements and of running masters fit in their 32 bits
 abbrev pub Bounded : World → Type 0
 Bounded w =
     ((p k : ℕ) (m : Stamp) (b : Body) → In (sent p k (Request m b)) w.sent → (m.life < 2 ^ 32) × (m.count < 2 ^ 32))
@@ -97,3 +99,5 @@ Bounded w =
     × ((p k : ℕ) (m : Stamp) (f : Txn) → In (sent p k (Request m (Floor f))) w.sent → (f.epoch < 2 ^ 32) × (f.number < 2 ^ 32))
     × ((p : ℕ) (f : Txn) → (w.at p).floor ≡ Some f → (f.epoch < 2 ^ 32) × (f.number < 2 ^ 32))
     × ((k : ℕ) (m : Master) → w.masters k ≡ Some m → (m.epoch < 2 ^ 32) × (m.begun < 2 ^ 32) × ((p : ℕ) → ((m.at p).last < 2 ^ 32) × ((m.at p).queries < 2 ^ 32)))
+    × ((b : Begun) → In b w.begun → (b.txn.epoch < 2 ^ 32) × (b.txn.number < 2 ^ 32))
+    × ((p : ℕ) (n : TxnEntry) → In n (w.at p).records → (n.txn.epoch < 2 ^ 32) × (n.txn.number < 2 ^ 32))

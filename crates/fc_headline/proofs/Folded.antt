@@ -255,14 +255,18 @@ module _ {Config Op Subs : Type 0} (g : Ground Config Op Subs) (law : Lawful g) 
     none_touch [] = refl
     none_touch (i ∷ is) = none_touch is
 
+    -- a plain change of which nothing is done
+    none_folds : Folds g first p fl c ns (Rattle.fc_machine.specs.Trace.Plain_at p [] ∷ fs)
+    none_folds = plain_folds g first p fl law [] c c ns fs refl tt (λ a b i j. absurd i) f
+
     unclaimed_by_folds : (m : Configuring Op) (mode : Mode) (b : Body) → ns ≡ [] → FoldsDid fs (unclaimed_by g p el m mode b)
-    unclaimed_by_folds m mode (Claim w) e = f
+    unclaimed_by_folds m mode (Claim w) e = none_folds
     unclaimed_by_folds m mode (Sot x ps sc) e = f
     unclaimed_by_folds m mode (Mot x i) e = f
     unclaimed_by_folds m mode (Eot x) e = f
     unclaimed_by_folds m mode (Trcomp x) e = f
     unclaimed_by_folds m mode (Abt x) e = f
-    unclaimed_by_folds m mode (Floor y) e = f
+    unclaimed_by_folds m mode (Floor y) e = none_folds
     unclaimed_by_folds m mode Malformed e = f
     unclaimed_by_folds m mode Plain e = did_if fs m.props _ _ (λ _. f) (λ _. changes_folds m mode (ap (λ v. any_taken (bares v) (places g m.ops)) e ∙ none_touch (places g m.ops)))
     unclaimed_by_folds m mode Ask e = f

@@ -108,13 +108,13 @@ module _ {Config Op Subs : Type 0} (g : Ground Config Op Subs) (p : ℕ) where
   acts_owned el m mode (Ask_record x) = tt
 
   unclaimed_owned : (el : Element Config Op Subs) (m : Configuring Op) (mode : Mode) (b : Body) → Owned p (unclaimed_by g p el m mode b).facts
-  unclaimed_owned el m mode (Claim w) = tt
+  unclaimed_owned el m mode (Claim w) = (refl, tt)
   unclaimed_owned el m mode (Sot x ps sc) = tt
   unclaimed_owned el m mode (Mot x i) = tt
   unclaimed_owned el m mode (Eot x) = tt
   unclaimed_owned el m mode (Trcomp x) = tt
   unclaimed_owned el m mode (Abt x) = tt
-  unclaimed_owned el m mode (Floor f) = tt
+  unclaimed_owned el m mode (Floor f) = (refl, tt)
   unclaimed_owned el m mode Malformed = tt
   unclaimed_owned el m mode Plain = did_if m.props _ _ tt (refl, tt)
   unclaimed_owned el m mode Ask = tt

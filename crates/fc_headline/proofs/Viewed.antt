@@ -10,7 +10,7 @@ use Rattle.fc_machine.specs.ElementState.{Entry, Element, noted, bares, first_co
 use Rattle.fc_machine.specs.Ground.{Place, Ground}
 use Rattle.fc_machine.specs.Messages.{Configuring, Answer}
 use Rattle.fc_machine.specs.Trace.{of_protocol, bare_facts}
-use Rattle.fc_machine.specs.Transactions.{Did, checked, checked_shown, shown_of, is_completed, all_in, places, with_floor, all_get, rest_codes, turned, and_adds, and_completes, sets_props, changes, executes, scope_at}
+use Rattle.fc_machine.specs.Transactions.{Did, checked, checked_shown, shown_of, is_completed, all_in, places, with_floor, all_get, none_done, rest_codes, turned, and_adds, and_completes, sets_props, changes, executes, scope_at}
 use Rattle.fc_machine.specs.Views.{config_body, view, views, quiet_by, rest_of, rest_shown, circumstance, peers_of, by_fence}
 use Rattle.fc_protocol.proofs.Basics.{cond_true, cond_false}
 use Rattle.fc_headline.proofs.Held.{bares_written, bares_rest, bares_undone}
@@ -247,14 +247,17 @@ module _ {Config Op Subs : Type 0} (g : Ground Config Op Subs) where
   refused_fit : (el : Element Config Op Subs) (m : Configuring Op) (code : ℕ) → UnclaimedFit el (all_get g el m code) code
   refused_fit el m code = record { records = refl; floor = refl; facts = refl; code = says_each_if m.bare code m.more }
 
+  none_done_fit : (p : ℕ) (el : Element Config Op Subs) (m : Configuring Op) (code : ℕ) → UnclaimedFit el (none_done g p el m code) code
+  none_done_fit p el m code = record { records = refl; floor = refl; facts = refl; code = says_each_if m.bare code m.more }
+
   unclaimed_by_fit : (p : ℕ) (el : Element Config Op Subs) (m : Configuring Op) (mode : Mode) (b : Body) → UnclaimedFit el (unclaimed_by g p el m mode b) (unclaimed_code true (response_code (executes g p el m mode).shown) (config_body b))
-  unclaimed_by_fit p el m mode (Claim w) = refused_fit el m _
+  unclaimed_by_fit p el m mode (Claim w) = none_done_fit p el m _
   unclaimed_by_fit p el m mode (Sot x ps sc) = refused_fit el m _
   unclaimed_by_fit p el m mode (Mot x i) = refused_fit el m _
   unclaimed_by_fit p el m mode (Eot x) = refused_fit el m _
   unclaimed_by_fit p el m mode (Trcomp x) = refused_fit el m _
   unclaimed_by_fit p el m mode (Abt x) = refused_fit el m _
-  unclaimed_by_fit p el m mode (Floor f) = refused_fit el m _
+  unclaimed_by_fit p el m mode (Floor f) = none_done_fit p el m _
   unclaimed_by_fit p el m mode Malformed = refused_fit el m _
   unclaimed_by_fit p el m mode Plain = let s = executes_idle p el m mode in record { records = s.records; floor = s.floor; facts = s.facts; code = says_own (executes g p el m mode).shown }
   unclaimed_by_fit p el m mode Ask = refused_fit el m _

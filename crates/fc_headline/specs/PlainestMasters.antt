@@ -3,7 +3,9 @@ use Rattle.std.specs.Prelude.{ℕ, true, false, List, [], ◌∷◌, ◌++◌, S
 use Rattle.fc_base.specs.Ids.{Txn}
 use Rattle.fc_modes.specs.declared.mode.Mode.TheVariants.{AllOrNone}
 use Rattle.fc_machine.specs.Messages.{Ask_held, Ask_one, Told_held, Told_one, Told_unread, Message, Setup, Beat, Response, Says, Notice, Accepted, Query, Configure}
-use Rattle.fc_machine.specs.WorldSteps.{Parcel, Spoke, Masters}
+use Rattle.fc_machine.specs.Plainest.{Pair, Set}
+use Rattle.fc_machine.specs.WorldSteps.{Parcel, Spoke, Masters, World, first_world}
+use Rattle.fc_protocol.specs.Examples.{first_controller}
 use Rattle.fc_protocol.specs.MasterMachine as protocol
 use Rattle.fc_protocol.specs.MasterMachine.{new_master, next_txn, heard, at_once, finish, again, begin_refusal, begins, plain_refusal, sends_one, give_up_refusal, gives_up, forget_refusal, forgets}
 use Rattle.fc_protocol.specs.Scopes.{Scope}
@@ -83,3 +85,7 @@ plainest Op = record {
   scopes = λ plan. plan.scopes;
   change = λ plan p i. plan.changes p i;
 }
+
+-- the first world of such masters over these elements, each with two numbers, and one controller
+abbrev pub two_numbers : List ℕ → World Pair Set (Unit {0}) (Driver Set)
+two_numbers es = first_world (record { first = 1; second = 1 }) (record {}) (record { elements = es; controllers = first_controller ∷ []; first_ce = λ _. first_controller })

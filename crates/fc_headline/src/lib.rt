@@ -7,4 +7,4 @@ mod pairs;
 
 pub use basis::Grounds;
 pub use laws::{clean_rounds, element_folds, element_goes_by_the_protocol, headline};
-pub use pairs::Pairs;
+pub use pairs::{Pairs, first_life};
