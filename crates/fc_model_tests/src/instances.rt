@@ -2,7 +2,8 @@
 use crate::types::{code, keys, pair};
 use fc_base::{Code, List, Memory, OpFault};
 use fc_path::Step;
-use fc_store::{EntryPath, Instance, Rows, Slot};
+use fc_rows::Rows;
+use fc_store::{EntryPath, Instance, Slot};
 use fc_types::Ty;
 use fc_value::Value;
 use std::alloc::Global;

@@ -8,7 +8,7 @@ use Rattle.fc_value.specs.declared.value.Value.TheViews.{out-roll-Value, rolls-T
 use Rattle.fc_value.specs.Keys.{keys_differ}
 use Rattle.fc_tree.specs.Finding.{entries_layer, entries_of}
 use Rattle.fc_store.specs.Histories.{AreHeld, AreRoomier, CanUndo, Fits, FitsAt, FoundKeys, HasPlace, HasRoom, Values, takes, IsArray, IsRoomier, IsRoomyArray, Undoable, at_slot, entry_at, entry_in, entry_put, put_among, slot_cell, swapped, undo, undone, values_at, values_of, with_entry}
-use Rattle.fc_store.specs.Rowed.{KeysFit, Prepared, RowMap, Seen, Shape, updated}
+use Rattle.fc_rows.specs.Rowed.{KeysFit, Prepared, RowMap, Seen, Shape, updated}
 use Rattle.fc_store.specs.declared.instance.Inverse.{Inverse}
 use Rattle.fc_store.specs.declared.instance.Inverse.TheVariants as inverse
 use Rattle.fc_store.specs.declared.instance.Row.{Row}
@@ -16,41 +16,9 @@ use Rattle.fc_store.specs.declared.instance.Slot.{Slot}
 use Rattle.fc_store.specs.declared.instance.Slot.TheVariants as slot
 use Rattle.fc_value.specs.declared.value.Value.{Value}
 use Rattle.fc_value.specs.declared.value.Value.TheVariants as value
+use Rattle.fc_rows.proofs.Updating.{fits_alike, map_again, updated_back}
 use Rattle.fc_store.proofs.Undoing.{undone-append, undoable-join}
 use Rattle.std.proofs.Common.{eqb-true}
-
--- ---- maps
-grows : (b : Bool) (n m : ℕ) → n + 1 ≤ m → cond b n (n + 1) ≤ m
-grows true n m le = omega arith
-grows false n m le = le
-
-shrinks : (b : Bool) (n m : ℕ) → n + 1 ≤ m → cond b (n - 1) n ≤ m
-shrinks true n m le = omega arith
-shrinks false n m le = omega arith
-
--- one entry more or less has room where there is room for one more
-pub updated_fits : (m : RowMap) (s : ℕ) (v : Option Value) (cap : ℕ) → len m + 1 ≤ cap → len (updated m s v) ≤ cap
-updated_fits m s None cap le = subst (λ (n : ℕ). n ≤ cap) (sym (len-remove nat_cmp_total m s)) (shrinks (is_some (get m s)) (len m) cap le)
-updated_fits m s (Some w) cap le = subst (λ (n : ℕ). n ≤ cap) (sym (len-insert nat_cmp_total m s w)) (grows (is_some (get m s)) (len m) cap le)
-
-pub got-updated : (m : RowMap) (s : ℕ) (v : Option Value) (q : ℕ) → get (updated m s v) q ≡ cond (eq_by_cmp nat_cmp q s) v (get m q)
-got-updated m s None q = get-remove nat_cmp_total m s q
-got-updated m s (Some w) q = get-insert nat_cmp_total m s w q
-
-key_is : (q s : ℕ) → eq_by_cmp nat_cmp q s ≡ true → q ≡ s
-key_is q s e = eqb-true q s (sym (unsigned_tied q s) ∙ e)
-
-twice : (q s : ℕ) (b : Bool) (m : RowMap) (v : Option Value) → eq_by_cmp nat_cmp q s ≡ b → cond b (get m s) (cond b v (get m q)) ≡ get m q
-twice q s true m v e = ap (get m) (sym (key_is q s e))
-twice q s false m v e = refl
-
--- what is put back undoes what was put
-pub updated_back : (m : RowMap) (s : ℕ) (v : Option Value) → updated (updated m s v) s (get m s) ≡ m
-updated_back m s v = same_map nat_cmp_total nat_cmp-IsAntisymmetric _ _ (λ q.
-    got-updated (updated m s v) s (get m s) q ∙ ap (λ (x : Option Value). cond (eq_by_cmp nat_cmp q s) (get m s) x) (got-updated m s v q) ∙ twice q s (eq_by_cmp nat_cmp q s) m v refl)
-
-pub map_again : (m : RowMap) → from_sorted (entries m) ≡ m
-map_again m = same_entries_map _ _ (entries-from_sorted nat_cmp (entries m) (entries_sorted m))
 
 -- ---- more room
 same_value : (s t : Slot) → IsRoomier s t → slot_cell t ≡ slot_cell s
@@ -127,10 +95,6 @@ same_length [] [] r = refl
 same_length [] (t ∷ ts) r = absurd r
 same_length (s ∷ ss) [] r = absurd r
 same_length (s ∷ ss) (t ∷ ts) r = ap suc (same_length ss ts r.1)
-
-pub fits_alike : (m n : RowMap) (k l : Shape) (s : ℕ) (v : Option Value) (entering leaving : List (List ℕ)) → n ≡ m → l ≡ k → KeysFit k m s v entering leaving → KeysFit l n s v entering leaving
-fits_alike m n k l s v entering leaving e f h =
-    subst (λ (j : Shape). KeysFit j n s v entering leaving) (sym f) (subst (λ (j : RowMap). KeysFit k j s v entering leaving) (sym e) h)
 
 room_alike : (s : ℕ) (v : Option Value) (entering leaving : List (List ℕ)) (a b : Slot) → IsRoomier a b → HasRoom s v entering leaving (Some a) → HasRoom s v entering leaving (Some b)
 room_alike s v entering leaving slot.Absent b r h = absurd h
@@ -239,10 +203,6 @@ pub one_roomy : (ss : List Slot) (c : ℕ) (s t : Slot) → IsArray (slice_get s
 one_roomy ss c s t a e r h =
     let at : slice_get ss c ≡ Some s = slot_at ss c s (array_within ss c a) e in
     subst IsRoomyArray (sym (get_set ss c s t at)) (roomy_by s t (subst IsArray at a) r h)
-
-pub on_ok : {A E : Type 0} (r : Result A E) (P Q : Type 0) → (P → Q) → OnOk r P → OnOk r Q
-on_ok (Ok x) P Q f p = f p
-on_ok (Err e) P Q f p = tt
 
 pub on_err : {A E : Type 0} (r : Result A E) (P : Type 0) → P → OnErr r P
 on_err (Ok x) P p = tt

@@ -1,9 +1,5 @@
 pub mod Bridge
 pub mod Changing
-pub mod ColumnLaws
-pub mod IndexKeys
-pub mod Leading
-pub mod RowPlaces
 pub mod Rowing
 pub mod Scoped
 pub mod Undoing

@@ -9,11 +9,12 @@ use Rattle.fc_value.specs.declared.value.Value.{Value}
 use Rattle.fc_value.specs.declared.value.Value.TheVariants as value
 use Rattle.fc_store.specs.Components.{cell_put, put_entry}
 use Rattle.fc_store.specs.Histories.{rows_of, slot_cell}
-use Rattle.fc_store.specs.Rowed.{RowMap, Seen}
+use Rattle.fc_rows.specs.Rowed.{RowMap, Seen}
 use Rattle.fc_store.specs.declared.instance.Slot.{Slot}
 use Rattle.fc_store.specs.declared.instance.Slot.TheVariants as slot
-use Rattle.fc_store.proofs.Bridge.{Entries, entries_again}
-use Rattle.fc_store.proofs.Changing.{map_again}
+use Rattle.fc_rows.proofs.Standing.{Entries}
+use Rattle.fc_rows.proofs.Updating.{map_again}
+use Rattle.fc_store.proofs.Bridge.{entries_again}
 
 pub rows_again : (m : RowMap) → rows_of (value.Table (entries m)) ≡ m
 rows_again m = ap (λ (es : Entries). from_sorted es) (entries_again (entries m)) ∙ map_again m

@@ -17,7 +17,7 @@ use Rattle.fc_value.specs.Reading.{full_in}
 use Rattle.fc_value.specs.declared.value.Value.{Value}
 use Rattle.fc_value.specs.declared.value.Value.TheVariants as value
 use Rattle.fc_store.specs.Histories.{Cell, Values, rows_of, takes}
-use Rattle.fc_store.specs.Rowed.{RowMap, Shape, updated}
+use Rattle.fc_rows.specs.Rowed.{RowMap, Shape, updated}
 
 -- an entry, where there is room for one more
 abbrev pub roomy : ℕ → RowMap → Value → Result Value ℕ

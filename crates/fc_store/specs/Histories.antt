@@ -8,7 +8,7 @@ use Rattle.fc_value.specs.declared.value.Value.{Value}
 use Rattle.fc_value.specs.declared.value.Value.TheVariants as value
 use Rattle.fc_tree.specs.Finding.{entries_of}
 use Rattle.fc_value.specs.Keys.{keys_differ}
-use Rattle.fc_store.specs.Rowed.{CanSwap, KeysFit, RowMap, Shape, shape_code, updated}
+use Rattle.fc_rows.specs.Rowed.{CanSwap, KeysFit, RowMap, Shape, shape_code, updated}
 use Rattle.fc_store.specs.declared.instance.Slot.{Slot}
 use Rattle.fc_store.specs.declared.instance.Slot.TheVariants as slot
 use Rattle.fc_store.specs.declared.instance.Inverse.{Inverse}

@@ -6,9 +6,10 @@ ghost use Rattle.fc_store.specs.Components as spec;
 ghost use Rattle.fc_store.specs.Components.{Changes, cell_entry, cell_put, entry_at_cell, entry_at_subscript, put_entry, row_put};
 ghost use Rattle.fc_store.specs.Histories.{slot_cell, values_of, with_entry};
 
-use crate::{Instance, Rows, Slot};
+use crate::{Instance, Slot};
 use fc_base::{Code, Duplicate, OpFault};
 use fc_path::Step;
+use fc_rows::Rows;
 use fc_tree::put_value;
 use fc_types::Ty;
 use fc_value::{Value, read_full};

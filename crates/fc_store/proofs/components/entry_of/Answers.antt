@@ -2,7 +2,7 @@ use Rattle.std.proofs.Common.{ap, sym, ◌∙◌}
 use Rattle.std.specs.FinMap.{get}
 use Rattle.fc_store.specs.Components.{cell_entry}
 use Rattle.fc_store.specs.Histories.{slot_cell}
-use Rattle.fc_store.specs.Rowed.{RowMap}
+use Rattle.fc_rows.specs.Rowed.{RowMap}
 use Rattle.fc_store.specs.declared.instance.Slot.{Slot}
 use Rattle.fc_store.proofs.Rowing.{rows_again}
 use Rattle.fc_store.proofs.components.entry_of.Goals as goal

@@ -1,0 +1,6 @@
+pub mod ColumnLaws
+pub mod IndexKeys
+pub mod Leading
+pub mod RowPlaces
+pub mod Standing
+pub mod Updating
