@@ -142,7 +142,7 @@ fn leant_right(tree: Tree) -> Tree
 }
 
 // The node as a tree, after one of its sides has changed in height by one.
-fn balanced(mut fork: Box<Fork>) -> Tree
+fn rebalanced(mut fork: Box<Fork>) -> Tree
     ensures { pairs_of result ≡ pairs_at fork.value }
 {
     let (left, right) = (fork.left.height(), fork.right.height());
@@ -157,6 +157,18 @@ fn balanced(mut fork: Box<Fork>) -> Tree
         return Tree::Branch(turned_left(fork));
     }
     Tree::Branch(measured(fork))
+}
+
+// The node as a tree, after one of its sides has changed, perhaps in height by one: where it has not, the node is as high as
+// before, and the other side is not looked at, which may stand in memory that is in no cache.
+fn balanced(fork: Box<Fork>, moved: bool) -> Tree
+    ensures { pairs_of result ≡ pairs_at fork.value }
+{
+    if moved {
+        rebalanced(fork)
+    } else {
+        Tree::Branch(fork)
+    }
 }
 
 /// The tree with a pair in a node of its own. The node is given back exactly where the key is there, and then nothing has
@@ -185,16 +197,20 @@ pub(crate) fn entered(
         Tree::Branch(mut fork) => match key.as_slice().cmp(fork.key.as_slice()) {
             Ordering::Less => {
                 let side = mem::replace(&mut fork.left, Tree::Leaf);
+                let height = side.height();
                 let (side, back) = entered(side, blank, key, subscript);
+                let moved = side.height() != height;
                 drop(mem::replace(&mut fork.left, side));
-                (balanced(fork), back)
+                (balanced(fork, moved), back)
             }
             Ordering::Equal => (Tree::Branch(fork), Some(blank)),
             Ordering::Greater => {
                 let side = mem::replace(&mut fork.right, Tree::Leaf);
+                let height = side.height();
                 let (side, back) = entered(side, blank, key, subscript);
+                let moved = side.height() != height;
                 drop(mem::replace(&mut fork.right, side));
-                (balanced(fork), back)
+                (balanced(fork, moved), back)
             }
         },
     }
@@ -207,9 +223,11 @@ fn without_last(mut fork: Box<Fork>) -> (Tree, Box<Fork>)
     match mem::replace(&mut fork.right, Tree::Leaf) {
         Tree::Leaf => (mem::replace(&mut fork.left, Tree::Leaf), fork),
         Tree::Branch(side) => {
+            let height = side.height;
             let (side, last) = without_last(side);
+            let moved = side.height() != height;
             drop(mem::replace(&mut fork.right, side));
-            (balanced(fork), last)
+            (balanced(fork, moved), last)
         }
     }
 }
@@ -224,7 +242,7 @@ fn joined(left: Tree, right: Tree) -> Tree
             let (side, mut last) = without_last(fork);
             drop(mem::replace(&mut last.left, side));
             drop(mem::replace(&mut last.right, right));
-            balanced(last)
+            rebalanced(last)
         }
     }
 }
@@ -239,9 +257,11 @@ pub(crate) fn removed(tree: Tree, key: &[u8]) -> (Tree, Option<(u32, Box<Fork>)>
         Tree::Branch(mut fork) => match key.cmp(fork.key.as_slice()) {
             Ordering::Less => {
                 let side = mem::replace(&mut fork.left, Tree::Leaf);
+                let height = side.height();
                 let (side, node) = removed(side, key);
+                let moved = side.height() != height;
                 drop(mem::replace(&mut fork.left, side));
-                (balanced(fork), node)
+                (balanced(fork, moved), node)
             }
             Ordering::Equal => {
                 let left = mem::replace(&mut fork.left, Tree::Leaf);
@@ -250,9 +270,11 @@ pub(crate) fn removed(tree: Tree, key: &[u8]) -> (Tree, Option<(u32, Box<Fork>)>
             }
             Ordering::Greater => {
                 let side = mem::replace(&mut fork.right, Tree::Leaf);
+                let height = side.height();
                 let (side, node) = removed(side, key);
+                let moved = side.height() != height;
                 drop(mem::replace(&mut fork.right, side));
-                (balanced(fork), node)
+                (balanced(fork, moved), node)
             }
         },
     }
