@@ -7,8 +7,7 @@ ghost use Rattle.std.specs.FinMap.{is_sorted, find, put};
 ghost use Rattle.fc_keys.specs.Keys.{key_cmp, without};
 ghost use Rattle.fc_keys.specs.Trees.{pairs_of, pairs_at};
 
-use fc_base::Octets;
-use std::alloc::Global;
+use crate::held::HeldKey;
 use std::cmp::Ordering;
 use std::mem;
 
@@ -17,7 +16,7 @@ use std::mem;
 #[derive(Debug, Drop)]
 pub(crate) struct Fork {
     left: Tree,
-    key: Octets,
+    key: HeldKey,
     subscript: u32,
     height: u8,
     right: Tree,
@@ -65,10 +64,10 @@ pub(crate) fn find(tree: &Tree, key: &[u8]) -> Option<u32>
 }
 
 /// A node that stands in no tree.
-pub(crate) fn blank(alloc: Global) -> Fork {
+pub(crate) fn blank() -> Fork {
     Fork {
         left: Tree::Leaf,
-        key: Octets::new(alloc),
+        key: HeldKey::none(),
         subscript: 0,
         height: 1,
         right: Tree::Leaf,
@@ -77,8 +76,7 @@ pub(crate) fn blank(alloc: Global) -> Fork {
 
 /// A node without its key, whose bytes are let go.
 pub(crate) fn emptied(mut node: Box<Fork>) -> Box<Fork> {
-    let none = Octets::new(node.key.alloc());
-    drop(mem::replace(&mut node.key, none));
+    drop(mem::replace(&mut node.key, HeldKey::none()));
     node
 }
 
@@ -176,7 +174,7 @@ fn balanced(fork: Box<Fork>, moved: bool) -> Tree
 pub(crate) fn entered(
     tree: Tree,
     mut blank: Box<Fork>,
-    key: Octets,
+    key: HeldKey,
     subscript: u32,
 ) -> (Tree, Option<Box<Fork>>)
     ensures back { IsTrue (is_sorted key_cmp (pairs_of tree)) → is_some result.1 ≡ is_some (find key_cmp key (pairs_of tree)) }
