@@ -1,7 +1,7 @@
 // Values with their bytes and codes with their causes, which stand in the specification of the format.
 use crate::digits::bytes_of;
 use crate::kinds::{Kind, kind_of, number, ty_of, value_of};
-use fc_base::OpFault;
+use fc_base::{Code, OpFault};
 use fc_types::Ty;
 use fc_value::{Value, read_full, write_full};
 use std::alloc::Global;
@@ -150,14 +150,25 @@ Ending: 01 01120005 C3 => INVALID_PARAMETERS
 Nested: 00000001 01120004 00000002 01120004 00000001 => INVALID_TLV
 Empty: 00 => INVALID_TLV";
 
-// The name of the code for which bytes are no value of a kind.
-fn code_of(alloc: Global, kind: Kind, digits: &str) -> Result<&'static str, Fail> {
+// The code of a name.
+fn code_named(name: &str) -> Option<Code> {
+    for code in [
+        Code::INVALID_TLV,
+        Code::INVALID_PARAMETERS,
+        Code::VALUE_OUT_OF_RANGE,
+    ] {
+        if code.name() == Some(name) {
+            return Some(code);
+        }
+    }
+    None
+}
+
+// Whether bytes are no value of a kind, by this code.
+fn is_refused(alloc: Global, kind: Kind, digits: &str, code: Code) -> Result<bool, Fail> {
     let ty = ty_of(alloc, kind)?;
     let bytes = bytes_of(alloc, digits)?;
-    match read_full(alloc, &ty, &bytes) {
-        Err(OpFault::Refused(code)) => Ok(code.name().ok_or("a name")?),
-        _ => Err(Fail::from("a code")),
-    }
+    Ok(read_full(alloc, &ty, &bytes) == Err(OpFault::Refused(code)))
 }
 
 #[test]
@@ -166,7 +177,8 @@ fn codes_and_their_causes(rt: HostRuntime) -> Result<(), Fail> {
     for row in CODES.lines() {
         let (kind, rest) = kinded(row)?;
         let (digits, name) = rest.split_once("=> ").ok_or("a code")?;
-        assert_eq!(rt; code_of(alloc, kind, digits)?, name, "{row}");
+        let code = code_named(name).ok_or("a name")?;
+        assert!(rt; is_refused(alloc, kind, digits, code)?, "{row}");
     }
     Ok(())
 }
