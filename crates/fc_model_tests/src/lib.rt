@@ -1,5 +1,4 @@
-//! Tests of the model: declared types and libraries, their documents, values, modes, and what an element's configuration
-//! stands on, which are undo stacks, key indexes, values that change and instances that go back.
+//! Tests of the model: declared types and libraries, their documents, values and modes.
 #![tactic(auto)]
 
 #[cfg(test)]
@@ -11,10 +10,6 @@ mod digits;
 #[cfg(test)]
 mod documents;
 #[cfg(test)]
-mod instances;
-#[cfg(test)]
-mod keys;
-#[cfg(test)]
 mod kinds;
 #[cfg(test)]
 mod modes;
@@ -25,12 +20,6 @@ mod places;
 #[cfg(test)]
 mod ports;
 #[cfg(test)]
-mod trees;
-#[cfg(test)]
 mod type_checks;
-#[cfg(test)]
-mod types;
-#[cfg(test)]
-mod undo;
 #[cfg(test)]
 mod values;

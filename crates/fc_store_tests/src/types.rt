@@ -4,7 +4,7 @@ use fc_types::{Field, KeyDecl, Ty};
 use fc_wire::Ilv;
 use std::alloc::Global;
 
-pub fn word() -> Ty {
+pub(crate) fn word() -> Ty {
     Ty::Number {
         bytes: 4,
         signed: false,
@@ -13,13 +13,13 @@ pub fn word() -> Ty {
     }
 }
 
-pub fn field(alloc: Global, id: u32, name: &str, ty: Ty) -> Result<Field, Memory> {
+pub(crate) fn field(alloc: Global, id: u32, name: &str, ty: Ty) -> Result<Field, Memory> {
     let name = Text::from_str(alloc, name)?;
     Ok(Field { id, name, ty })
 }
 
 // One key, on field 1.
-pub fn keys(alloc: Global) -> Result<List<KeyDecl>, Memory> {
+pub(crate) fn keys(alloc: Global) -> Result<List<KeyDecl>, Memory> {
     let mut keys = List::new(alloc);
     keys.push(KeyDecl {
         id: 1,
@@ -29,7 +29,7 @@ pub fn keys(alloc: Global) -> Result<List<KeyDecl>, Memory> {
 }
 
 // A name, a number and a truth value.
-pub fn port(alloc: Global) -> Result<List<Field>, Memory> {
+pub(crate) fn port(alloc: Global) -> Result<List<Field>, Memory> {
     let mut fields = List::new(alloc);
     fields.push(field(alloc, 1, "name", Ty::String { length: 16 })?)?;
     fields.push(field(alloc, 2, "mtu", word())?)?;
@@ -38,7 +38,7 @@ pub fn port(alloc: Global) -> Result<List<Field>, Memory> {
 }
 
 // At most two ports, told apart by their names.
-pub fn ports(alloc: Global) -> Result<Ty, Memory> {
+pub(crate) fn ports(alloc: Global) -> Result<Ty, Memory> {
     let fields = port(alloc)?;
     Ok(Ty::Array {
         entry: Boxed::new(alloc, Ty::Struct { fields })?,
@@ -47,20 +47,20 @@ pub fn ports(alloc: Global) -> Result<Ty, Memory> {
     })
 }
 
-pub fn pair(alloc: Global) -> Result<List<Field>, Memory> {
+pub(crate) fn pair(alloc: Global) -> Result<List<Field>, Memory> {
     let mut fields = List::new(alloc);
     fields.push(field(alloc, 1, "first", word())?)?;
     fields.push(field(alloc, 2, "second", word())?)?;
     Ok(fields)
 }
 
-pub fn ilv(alloc: Global, ident: u32, bytes: &[u8]) -> Result<Ilv, Memory> {
+pub(crate) fn ilv(alloc: Global, ident: u32, bytes: &[u8]) -> Result<Ilv, Memory> {
     let value = Octets::from_slice(alloc, bytes)?;
     Ok(Ilv { ident, value })
 }
 
 // The code of a refusal.
-pub fn code<T>(answer: &Result<T, OpFault>) -> Option<Code> {
+pub(crate) fn code<T>(answer: &Result<T, OpFault>) -> Option<Code> {
     match answer {
         Err(OpFault::Refused(code)) => Some(*code),
         _ => None,
