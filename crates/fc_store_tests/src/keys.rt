@@ -118,3 +118,32 @@ fn room_for_a_full_index_is_made_at_once(rt: HostRuntime) -> Result<(), Fail> {
     assert_eq!(rt; found(&index, Order::Scattered), MANY);
     Ok(())
 }
+
+// Whether keys of all lengths up to 40 bytes, each the front of the next one, lead to their places.
+fn lengths_differ(alloc: Global, index: &mut KeyIndex) -> Result<bool, Memory> {
+    let bytes = [7u8; 40];
+    for (length, place) in (0..=40usize).zip(0u32..) {
+        if !index.insert(Octets::from_slice(alloc, &bytes[..length])?, place)? {
+            return Ok(false);
+        }
+    }
+    for (length, place) in (0..=40usize).zip(0u32..) {
+        if index.find(&bytes[..length]) != Some(place) {
+            return Ok(false);
+        }
+    }
+    Ok(true)
+}
+
+#[test]
+fn keys_of_all_lengths_stand_apart(rt: HostRuntime) -> Result<(), Fail> {
+    let alloc = rt.alloc();
+    let mut index = KeyIndex::new(alloc);
+    assert!(rt; lengths_differ(alloc, &mut index)?);
+    assert_eq!(rt; index.find(&[7; 41]), None);
+    assert_eq!(rt; index.remove(&[7; 16]), Some(16));
+    assert_eq!(rt; index.remove(&[7; 17]), Some(17));
+    assert_eq!(rt; index.find(&[7; 16]), None);
+    assert_eq!(rt; index.find(&[7; 18]), Some(18));
+    Ok(())
+}
