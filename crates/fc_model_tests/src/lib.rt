@@ -23,3 +23,5 @@ mod ports;
 mod type_checks;
 #[cfg(test)]
 mod values;
+#[cfg(test)]
+mod widest;

@@ -1,0 +1,142 @@
+// Values of the types that hold the most: a struct of 1,023 fields, a text and bytes of 65,531, and a list of many operations.
+use crate::kinds::{field, key, one};
+use fc_base::{Code, List, Memory, Octets};
+use fc_modes::{CopyingMap, EntryOp, Mode, run_mode};
+use fc_types::{Field, Ty};
+use fc_value::{Value, first, key_value, read_full, read_sparse, write_full};
+use fc_wire::Ilv;
+use std::alloc::Global;
+use std::test::Fail;
+
+// With the struct itself as many members as a class may have.
+const FIELDS: u32 = 1_023;
+
+// What the longest FULLDATA holds.
+const BYTES: usize = 65_531;
+
+const OPERATIONS: u32 = 1_000;
+
+// Truth values with these IDs from 1 on.
+fn truths(alloc: Global) -> Result<List<Field>, Memory> {
+    let mut fields = List::new(alloc);
+    for id in 1..=FIELDS {
+        fields.push(field(alloc, id, Ty::Bool)?)?;
+    }
+    Ok(fields)
+}
+
+// The IDs of the fields.
+fn ids(alloc: Global) -> Result<Vec<u32>, Memory> {
+    let mut ids = Vec::new(alloc);
+    for id in 1..=FIELDS {
+        ids.push(id)?;
+    }
+    Ok(ids)
+}
+
+// So many bytes of one kind.
+fn same(alloc: Global, byte: u8, count: usize) -> Result<Vec<u8>, Memory> {
+    let mut bytes = Vec::new(alloc);
+    bytes.resize(count, byte)?;
+    Ok(bytes)
+}
+
+#[test]
+fn the_widest_struct_opens_and_is_written_and_read(rt: HostRuntime) -> Result<(), Fail> {
+    let alloc = rt.alloc();
+    let fields = truths(alloc)?;
+    let ty = Ty::Struct { fields };
+    let value = first(alloc, &ty)?;
+    let mut bytes = Vec::new(alloc);
+    write_full(&ty, &value, &mut bytes)?;
+    assert!(rt; bytes == same(alloc, 0, FIELDS as usize)?);
+    assert!(rt; read_full(alloc, &ty, &bytes) == Ok(value));
+    Ok(())
+}
+
+#[test]
+fn a_key_of_all_fields_is_their_struct(rt: HostRuntime) -> Result<(), Fail> {
+    let alloc = rt.alloc();
+    let all = key(alloc, 1, ids(alloc)?.as_slice())?;
+    let fields = truths(alloc)?;
+    let value = first(alloc, &Ty::Struct { fields })?;
+    let bytes = key_value(alloc, truths(alloc)?.as_slice(), &all, &value)?;
+    assert!(rt; bytes == same(alloc, 0, FIELDS as usize)?);
+    Ok(())
+}
+
+// A change of each field to true.
+fn parts(alloc: Global) -> Result<Vec<Ilv>, Memory> {
+    let mut ilvs = Vec::new(alloc);
+    for ident in 1..=FIELDS {
+        let value = Octets::from_slice(alloc, &[1])?;
+        ilvs.push(Ilv { ident, value })?;
+    }
+    Ok(ilvs)
+}
+
+#[test]
+fn parts_name_every_field(rt: HostRuntime) -> Result<(), Fail> {
+    let alloc = rt.alloc();
+    let fields = truths(alloc)?;
+    let given = parts(alloc)?;
+    let changes = read_sparse(alloc, &Ty::Struct { fields }, &given)?;
+    assert_eq!(rt; changes.len(), FIELDS as usize);
+    for (change, ident) in changes.as_slice().iter().zip(1u32..) {
+        assert!(rt; *change == (ident, Value::Truth(true)), "{ident}");
+    }
+    Ok(())
+}
+
+#[test]
+fn the_longest_text_and_bytes_are_read_and_written(rt: HostRuntime) -> Result<(), Fail> {
+    let alloc = rt.alloc();
+    let given = same(alloc, b'a', BYTES)?;
+    for ty in [Ty::String { length: 65_531 }, Ty::Octets { length: 65_531 }] {
+        let value = read_full(alloc, &ty, &given)?;
+        let mut bytes = Vec::new(alloc);
+        write_full(&ty, &value, &mut bytes)?;
+        assert!(rt; bytes == given);
+        let held = Ty::Struct {
+            fields: one(alloc, ty)?,
+        };
+        let mut longer = Vec::new(alloc);
+        longer.extend_from_slice(&[0x01, 0x12, 0xFF, 0xFF])?;
+        longer.extend_from_slice(&given)?;
+        longer.push(0)?;
+        let inner = read_full(alloc, &held, &longer)?;
+        let mut bytes = Vec::new(alloc);
+        write_full(&held, &inner, &mut bytes)?;
+        assert!(rt; bytes == longer);
+    }
+    Ok(())
+}
+
+// Creates so many entries, and one that is there.
+fn operations(alloc: Global) -> Result<Vec<EntryOp>, Memory> {
+    let mut ops = Vec::new(alloc);
+    for entry in 0..OPERATIONS {
+        ops.push(EntryOp::Create(entry, entry))?;
+    }
+    ops.push(EntryOp::Create(7, 0))?;
+    Ok(ops)
+}
+
+#[test]
+fn many_operations_go_by_each_mode(rt: HostRuntime) -> Result<(), Fail> {
+    let alloc = rt.alloc();
+    let ops = operations(alloc)?;
+    let rows = [
+        (Mode::AllOrNone, 0),
+        (Mode::UntilFailure, OPERATIONS as usize),
+        (Mode::Continue, OPERATIONS as usize),
+    ];
+    for (mode, left) in rows {
+        let mut map = CopyingMap::new(alloc);
+        let codes = run_mode(alloc, &mut map, mode, ops.as_slice())?;
+        assert_eq!(rt; codes.len(), OPERATIONS as usize + 1);
+        assert_eq!(rt; codes.get(OPERATIONS as usize), Some(&Code::EXISTS));
+        assert_eq!(rt; map.entries().len(), left);
+    }
+    Ok(())
+}
