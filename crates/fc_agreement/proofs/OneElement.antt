@@ -1,5 +1,6 @@
 -- Whatever an element is sent keeps what its records tell, and their limits.
 use Rattle.std.proofs.Common.{◌≡◌, ℕ, ◌≤◌, ◌==◌, Bool, true, false, cond, List, [], ◌∷◌, ◌++◌, length, ◌&&◌, not, nat_le, Option, Some, None, ⊎_elim, refl, sym, ap, ◌∙◌, subst, arith, eqb-true}
+use Rattle.fc_agreement.specs.Scopes.{RisingScopes}
 use Rattle.fc_base.specs.Ids.{Txn}
 use Rattle.fc_protocol.specs.Collections.{among}
 use Rattle.fc_protocol.specs.ElementMachine.{ElementState, new_element, Circumstance, acts, after, idles, takes_part, rises_above, admits, Heard, only_says, reply, by_verdict, configured, by_body, hears}
@@ -8,7 +9,7 @@ use Rattle.fc_protocol.specs.Messages.{same, is_name, Stamp, Body, Claim, Sot, M
 use Rattle.fc_protocol.specs.OneElement.{Arrival, hears_all, PreparedFirst, SettlesOnce, RecordsTell, FloorClear, Distinct, Limited, ScopesApart, FewParticipants}
 use Rattle.fc_protocol.specs.Phases.{Turn, opening, adding, preparing, settling, aborting}
 use Rattle.fc_protocol.specs.Records.{state_of, noted, held, clashes, is_full, is_packed, all_undone}
-use Rattle.fc_protocol.specs.Scopes.{Scope}
+use Rattle.fc_protocol.specs.Scopes.{Scope, is_scope}
 use Rattle.fc_protocol.specs.Trace.{Fact, Claimed_at, facts_of, undone_facts}
 use Rattle.fc_protocol.specs.declared.answers.TxnEntry.{TxnEntry}
 use Rattle.fc_protocol.specs.declared.states.Decision.TheVariants.{Complete}
@@ -26,16 +27,20 @@ use Rattle.fc_protocol.proofs.Order.{floor_rises, floor_zero}
 use Rattle.fc_protocol.proofs.Records.{write_all, forgotten_all, or_else, undone_or, held_or, state_noted, state_noted_other, state_undone, state_kept, state_gone, unheld_under}
 use Rattle.fc_agreement.proofs.OneRecord.{single_noted, single_undone, absent_of, single_forgotten}
 
-abbrev Few : TxnEntry → Type 0
-Few n = length n.participants ≤ 64
+-- participants and a scope that a record may have
+abbrev Bounds : List ℕ → Scope → Type 0
+Bounds ps sc = (length ps ≤ 64) × (is_scope sc ≡ true)
 
-noted_few : (y : Txn) (ps : List ℕ) (sc : Scope) (new : Option TxnState) (ns : List TxnEntry) → AllOf Few ns → ((s : TxnState) → new ≡ Some s → length ps ≤ 64) → AllOf Few (noted y ps sc new ns)
-noted_few y ps sc None ns a f = a
-noted_few y ps sc (Some s) ns a f = write_all Few y ps sc s (state_of y ns) ns refl a (λ n _ _ u. u) (λ _. f s refl)
+abbrev Formed : TxnEntry → Type 0
+Formed n = Bounds n.participants n.scope
 
-undone_few : (ns : List TxnEntry) → AllOf Few ns → AllOf Few (all_undone ns)
-undone_few [] a = tt
-undone_few (n ∷ ns) a = (a.0, undone_few ns a.1)
+noted_formed : (y : Txn) (ps : List ℕ) (sc : Scope) (new : Option TxnState) (ns : List TxnEntry) → AllOf Formed ns → ((s : TxnState) → new ≡ Some s → Bounds ps sc) → AllOf Formed (noted y ps sc new ns)
+noted_formed y ps sc None ns a f = a
+noted_formed y ps sc (Some s) ns a f = write_all Formed y ps sc s (state_of y ns) ns refl a (λ n _ _ u. u) (λ _. f s refl)
+
+undone_formed : (ns : List TxnEntry) → AllOf Formed ns → AllOf Formed (all_undone ns)
+undone_formed [] a = tt
+undone_formed (n ∷ ns) a = (a.0, undone_formed ns a.1)
 
 le_of : (m n : ℕ) → nat_le m n ≡ true → m ≤ n
 le_of m n h = grind arith
@@ -44,14 +49,15 @@ opens_fit : (fits below clash full : Bool) (rest : ℕ) (o : Option TxnState) (s
 opens_fit true below clash full rest o s e = refl
 opens_fit false below clash full rest o s e = cc
 
-admits_few : (p e : ℕ) (y : Txn) (ps : List ℕ) (strange : Bool) (sc : Scope) → admits p e y ps strange sc ≡ true → length ps ≤ 64
-admits_few p e y ps strange sc h =
+admits_bounds : (p e : ℕ) (y : Txn) (ps : List ℕ) (strange : Bool) (sc : Scope) → admits p e y ps strange sc ≡ true → Bounds ps sc
+admits_bounds p e y ps strange sc h =
     let named = both_second (y.epoch == e) _ h in
-    let part = both_first (takes_part p ps) _ (both_second (not (y.number == 0)) _ named) in
-    le_of (length ps) 64 (both_second (rises_above 0 ps) _ (both_second (among p ps) _ part))
+    let rest = both_second (not (y.number == 0)) _ named in
+    let part = both_first (takes_part p ps) _ rest in
+    (le_of (length ps) 64 (both_second (rises_above 0 ps) _ (both_second (among p ps) _ part)), both_second (not strange) _ (both_second (takes_part p ps) _ rest))
 
-none_few : (s : TxnState) → length {A = ℕ} [] ≤ 64
-none_few s = omega arith
+none_bounds : (s : TxnState) → Bounds [] []
+none_bounds s = (omega arith, refl)
 
 module _ (p : ℕ) where
   -- of one transaction: its record, or the state that it was forgotten in
@@ -66,7 +72,7 @@ module _ (p : ℕ) where
     single : (x : Txn) → Single x [] ns
     limited : Limited ns
     apart : ScopesApart ns
-    few : AllOf Few ns
+    formed : AllOf Formed ns
 
   abbrev Keeps : List Fact → Heard → Type 0
   Keeps fs r = Sound r.element.floor r.element.records (r.facts ++ fs)
@@ -101,14 +107,14 @@ module _ (p : ℕ) where
         gone = λ b. let g = k.gone b in (state_noted_other x y ps sc t.new ns u ∙ g.0, g.1);
       }) (both (same x y))
 
-  after_sound : (y : Txn) (t : Turn) (ps : List ℕ) (sc : Scope) (fl : Option Txn) (ns : List TxnEntry) (fs : List Fact) → Sound fl ns fs → ((x : Txn) → y ≡ x → is_below x fl ≡ false → Turned p x t (state_of x ns) ps fs) → (is_below y fl ≡ true → state_of y ns ≡ None → Idle t) → Fit sc t.new (state_of y ns) ns → ((s : TxnState) → t.new ≡ Some s → length ps ≤ 64)
+  after_sound : (y : Txn) (t : Turn) (ps : List ℕ) (sc : Scope) (fl : Option Txn) (ns : List TxnEntry) (fs : List Fact) → Sound fl ns fs → ((x : Txn) → y ≡ x → is_below x fl ≡ false → Turned p x t (state_of x ns) ps fs) → (is_below y fl ≡ true → state_of y ns ≡ None → Idle t) → Fit sc t.new (state_of y ns) ns → ((s : TxnState) → t.new ≡ Some s → Bounds ps sc)
       → Sound fl (after p t y ps sc fl ns).records ((after p t y ps sc fl ns).facts ++ fs)
-  after_sound y t ps sc fl ns fs s f q g few = record {
+  after_sound y t ps sc fl ns fs s f q g b = record {
     kept = λ x. after_kept x y t ps sc fl ns fs (s.kept x) (f x) q;
     single = λ x. single_noted x [] y ps sc t.new ns (s.single x);
     limited = noted_limited y ps sc t.new ns s.limited g;
     apart = noted_apart y ps sc t.new ns s.apart g;
-    few = noted_few y ps sc t.new ns s.few few;
+    formed = noted_formed y ps sc t.new ns s.formed b;
   }
 
   -- a new floor
@@ -127,7 +133,7 @@ module _ (p : ℕ) where
       let n : length ns ≤ 4096 = s.limited.1 in
       let d : length (held (forgotten f ns)) ≤ length (held ns) = l.0 in
       let g : length (forgotten f ns) ≤ length ns = l.1 in
-      record { kept = λ x. floor_kept fl f ns fs x r u (s.kept x); single = λ x. single_forgotten x [] f ns (s.single x); limited = (omega arith, omega arith); apart = forgotten_apart f ns s.apart; few = forgotten_all Few f ns s.few }
+      record { kept = λ x. floor_kept fl f ns fs x r u (s.kept x); single = λ x. single_forgotten x [] f ns (s.single x); limited = (omega arith, omega arith); apart = forgotten_apart f ns s.apart; formed = forgotten_all Formed f ns s.formed }
 
   floored_sound : (fl : Option Txn) (f : Txn) (ns : List TxnEntry) (code : ℕ) (fs : List Fact) (b : Bool) → (b ≡ true → (is_below f fl ≡ false) × (held_under f ns ≡ false)) → Sound fl ns fs → let r = cond b (record { records = forgotten f ns; floor = Some f; code = 0; facts = [] }) (idles fl ns code) in Sound r.floor r.records (r.facts ++ fs)
   floored_sound fl f ns code fs true g s = floor_sound fl f ns fs (g refl).0 (g refl).1 s
@@ -142,21 +148,21 @@ module _ (p : ℕ) where
       (opening_turn p x fits (is_below x fl) (clashes sc ns) (is_packed ns) c.rest (state_of x ns) ps fs (kept_known fl ns fs x b (s.kept x))))
       (opening_idle fits (is_below y fl) (clashes sc ns) (is_packed ns) c.rest (state_of y ns))
       (opening_fit sc fits (is_below y fl) (clashes sc ns) (is_packed ns) c.rest (state_of y ns) ns refl refl)
-      (λ s e. admits_few p e0 y ps c.strange sc (opens_fit fits (is_below y fl) (clashes sc ns) (is_packed ns) c.rest (state_of y ns) s e))
+      (λ s e. admits_bounds p e0 y ps c.strange sc (opens_fit fits (is_below y fl) (clashes sc ns) (is_packed ns) c.rest (state_of y ns) s e))
   acts_sound e c (Mot y i) fl ns fs s =
       after_sound y (adding c.rest (state_of y ns)) [] [] fl ns fs s
-      (λ x i b. subst (λ v. Turned p x (adding c.rest (state_of v ns)) (state_of x ns) [] fs) (sym i) (adding_turn p x c.rest (state_of x ns) fs (kept_known fl ns fs x b (s.kept x)))) (λ _. adding_idle c.rest (state_of y ns)) (adding_fit [] c.rest (state_of y ns) ns) (λ s _. none_few s)
+      (λ x i b. subst (λ v. Turned p x (adding c.rest (state_of v ns)) (state_of x ns) [] fs) (sym i) (adding_turn p x c.rest (state_of x ns) fs (kept_known fl ns fs x b (s.kept x)))) (λ _. adding_idle c.rest (state_of y ns)) (adding_fit [] c.rest (state_of y ns) ns) (λ s _. none_bounds s)
   acts_sound e c (Eot y) fl ns fs s =
       after_sound y (preparing (state_of y ns)) [] [] fl ns fs s (λ x i b. subst (λ v. Turned p x (preparing (state_of v ns)) (state_of x ns) [] fs) (sym i) (preparing_turn p x (state_of x ns) fs (kept_known fl ns fs x b (s.kept x))))
-      (λ _. preparing_idle (state_of y ns)) (preparing_fit [] (state_of y ns) ns) (λ s _. none_few s)
+      (λ _. preparing_idle (state_of y ns)) (preparing_fit [] (state_of y ns) ns) (λ s _. none_bounds s)
   acts_sound e c (Trcomp y) fl ns fs s =
       after_sound y (settling Complete (state_of y ns)) [] [] fl ns fs s
       (λ x i b. subst (λ v. Turned p x (settling Complete (state_of v ns)) (state_of x ns) [] fs) (sym i) (settling_turn p x Complete (state_of x ns) fs (kept_known fl ns fs x b (s.kept x))))
-      (λ _. settling_idle Complete (state_of y ns)) (settling_fit [] Complete (state_of y ns) ns) (λ s _. none_few s)
+      (λ _. settling_idle Complete (state_of y ns)) (settling_fit [] Complete (state_of y ns) ns) (λ s _. none_bounds s)
   acts_sound e c (Abt y) fl ns fs s =
       after_sound y (aborting (is_name y && not (is_below y fl)) (is_full ns) (state_of y ns)) [] [] fl ns fs s
       (λ x i b. subst (λ v. Turned p x (aborting (is_name v && not (is_below v fl)) (is_full ns) (state_of v ns)) (state_of x ns) [] fs) (sym i) (aborting_turn p x (is_name x && not (is_below x fl)) (is_full ns) (state_of x ns) fs (kept_known fl ns fs x b (s.kept x))))
-      (aborting_idle (is_name y) (is_below y fl) (is_full ns) (state_of y ns)) (aborting_fit [] (is_name y && not (is_below y fl)) (is_full ns) (state_of y ns) ns refl) (λ s _. none_few s)
+      (aborting_idle (is_name y) (is_below y fl) (is_full ns) (state_of y ns)) (aborting_fit [] (is_name y && not (is_below y fl)) (is_full ns) (state_of y ns) ns refl) (λ s _. none_bounds s)
   acts_sound e c (Floor f) fl ns fs s = floored_sound fl f ns (floor_code e fl f ns) fs (floor_code e fl f ns == 0) (λ b. floor_zero e fl f ns (eqb-true _ _ b)) s
   acts_sound e c Malformed fl ns fs s = s
   acts_sound e c Plain fl ns fs s = s
@@ -182,7 +188,7 @@ module _ (p : ℕ) where
         single = λ x. single_undone x [] el.records (s.single x);
         limited = (omega arith, omega arith);
         apart = undone_apart el.records s.apart;
-        few = undone_few el.records s.few;
+        formed = undone_formed el.records s.formed;
       }
   verdict_sound el k c m b Unclaimed fs s = s
   verdict_sound el k c m b Stale fs s = s
@@ -225,7 +231,7 @@ module _ (p : ℕ) where
     single = λ x. tt;
     limited = (omega arith, omega arith);
     apart = tt;
-    few = tt;
+    formed = tt;
   }
 
   distinct : (ns : List TxnEntry) → ((x : Txn) → Single x [] ns) → Distinct ns
@@ -257,12 +263,19 @@ module _ (p : ℕ) where
     pub limited_law : Limited then.element.records
     limited_law = sound.limited
 
-    few_of : (ns : List TxnEntry) → AllOf Few ns → FewParticipants ns
+    few_of : (ns : List TxnEntry) → AllOf Formed ns → FewParticipants ns
     few_of [] a = tt
-    few_of (n ∷ ns) a = (a.0, few_of ns a.1)
+    few_of (n ∷ ns) a = (a.0.0, few_of ns a.1)
 
     pub few_law : FewParticipants then.element.records
-    few_law = few_of then.element.records sound.few
+    few_law = few_of then.element.records sound.formed
+
+    rising_of : (ns : List TxnEntry) → AllOf Formed ns → RisingScopes ns
+    rising_of [] a = tt
+    rising_of (n ∷ ns) a = (a.0.1, rising_of ns a.1)
+
+    pub rising_law : RisingScopes then.element.records
+    rising_law = rising_of then.element.records sound.formed
 
     pub apart_law : ScopesApart then.element.records
     apart_law = sound.apart

@@ -3,3 +3,4 @@ pub mod CoreLaws
 pub mod Agreement
 pub mod Runs
 pub mod CleanRound
+pub mod Scopes

@@ -5,6 +5,7 @@ ghost use Rattle.fc_agreement.specs.Agreement.{Agree, SettleOnce, Ready, OnePlan
 ghost use Rattle.fc_agreement.specs.CleanRound.{CleanRound};
 ghost use Rattle.fc_agreement.specs.Core.{Core, Move, moves, start};
 ghost use Rattle.fc_agreement.specs.CoreLaws.{OneEnd, PreparedBefore, PreparedDecided, ReachedDecided, NoLaterAbort, AnswersStay, EndsStay, DecisionsStay};
+ghost use Rattle.fc_agreement.specs.Scopes.{RisingScopes};
 ghost use Rattle.fc_protocol.specs.ElementMachine.{ElementState, new_element, Circumstance, hears};
 ghost use Rattle.fc_protocol.specs.Messages.{Stamp, Body};
 ghost use Rattle.fc_protocol.specs.OneElement.{Arrival, hears_all, PreparedFirst, SettlesOnce, RecordsTell, FloorClear, Distinct, Limited, ScopesApart, FewParticipants, Owned};
@@ -47,7 +48,8 @@ pub fn fenced()
 {}
 
 /// Of one element by itself, whatever requests it is sent, by whomever: it completes only what it has prepared and settles a transaction at most once, its records tell what it has settled and is not below its floor, no record is below it,
-/// no two are of one transaction, no two scopes of what is held meet, at most 64 are held, and there are at most 4,096, each with at most 64 participants; its epoch is 0 or one, and only while it is 0 it has no master.
+/// no two are of one transaction, no two scopes of what is held meet, at most 64 are held, and there are at most 4,096, each with at most 64 participants and a scope that rises and names no instance of the control class;
+/// its epoch is 0 or one, and only while it is 0 it has no master.
 pub fn one_element()
     ensures prepared_first { (p ce : ℕ) (arrivals : List Arrival) → PreparedFirst p (hears_all p arrivals (new_element ce) []).facts }
     ensures settles_once { (p ce : ℕ) (arrivals : List Arrival) → SettlesOnce p (hears_all p arrivals (new_element ce) []).facts }
@@ -55,6 +57,7 @@ pub fn one_element()
     ensures floor_clear { (p ce : ℕ) (arrivals : List Arrival) → FloorClear (hears_all p arrivals (new_element ce) []).element.floor (hears_all p arrivals (new_element ce) []).element.records }
     ensures distinct { (p ce : ℕ) (arrivals : List Arrival) → Distinct (hears_all p arrivals (new_element ce) []).element.records }
     ensures apart { (p ce : ℕ) (arrivals : List Arrival) → ScopesApart (hears_all p arrivals (new_element ce) []).element.records }
+    ensures rising { (p ce : ℕ) (arrivals : List Arrival) → RisingScopes (hears_all p arrivals (new_element ce) []).element.records }
     ensures few { (p ce : ℕ) (arrivals : List Arrival) → FewParticipants (hears_all p arrivals (new_element ce) []).element.records }
     ensures owned { (p ce : ℕ) (arrivals : List Arrival) → Owned ce (hears_all p arrivals (new_element ce) []).element }
     ensures limited { (p ce : ℕ) (arrivals : List Arrival) → Limited (hears_all p arrivals (new_element ce) []).element.records }

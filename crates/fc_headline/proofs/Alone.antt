@@ -1,5 +1,6 @@
 -- One element by itself goes as the protocol's.
 use Rattle.std.proofs.Common.{eq-eqb, ◌≡◌, ℕ, true, List, [], ◌∷◌, ◌++◌, refl, sym, ap, ◌∙◌, subst}
+use Rattle.fc_agreement.specs.Scopes.{RisingScopes}
 use Rattle.fc_machine.specs.ElementMachine.{Input, Opened, Arrived, Closed, Moment, Step, on_moment, step, steps}
 use Rattle.fc_machine.specs.ElementState.{Entry, Element, new_element, ops_of, bares, tx}
 use Rattle.fc_machine.specs.Ground.{Ground, Lawful}
@@ -23,7 +24,7 @@ use Rattle.fc_protocol.specs.Trace as trace
 use Rattle.fc_protocol.specs.Trace.{Prepared_at, Settled_at}
 use Rattle.fc_protocol.specs.declared.states.Decision.TheVariants.{Complete}
 use Rattle.fc_protocol.proofs.Basics.{AllOf}
-use Rattle.fc_agreement.proofs.OneElement.{first_law, settles_law, distinct_law, limited_law, apart_law, few_law, clear_law, tell_law}
+use Rattle.fc_agreement.proofs.OneElement.{first_law, settles_law, distinct_law, limited_law, apart_law, few_law, rising_law, clear_law, tell_law}
 
 module _ {Config Op Subs : Type 0} (g : Ground Config Op Subs) (p : ℕ) where
   -- the element, and all its facts, are those of these requests
@@ -111,6 +112,7 @@ module _ {Config Op Subs : Type 0} (g : Ground Config Op Subs) where
         limited = subst Limited (sym records) (limited_law p ce a.0);
         apart = subst ScopesApart (sym records) (apart_law p ce a.0);
         few = subst FewParticipants (sym records) (few_law p ce a.0);
+        rising = subst RisingScopes (sym records) (rising_law p ce a.0);
         clear = subst (λ (e : ElementState). FloorClear e.floor e.records) (sym a.1.0) (clear_law p ce a.0);
         inside = to_inside r.element.records f.0.fine;
         unclaimed = λ z. f.1 (eq-eqb r.element.epoch 0 z);

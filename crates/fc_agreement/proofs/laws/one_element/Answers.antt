@@ -1,4 +1,4 @@
-use Rattle.fc_agreement.proofs.OneElement.{first_law, settles_law, tell_law, distinct_law, limited_law, apart_law, few_law, clear_law}
+use Rattle.fc_agreement.proofs.OneElement.{first_law, settles_law, tell_law, distinct_law, limited_law, apart_law, few_law, clear_law, rising_law}
 use Rattle.fc_agreement.proofs.Ownership.{owned_law}
 use Rattle.fc_agreement.proofs.laws.one_element.Goals as goal
 
@@ -25,6 +25,9 @@ returns-clause-floor_clear c = clear_law
 
 pub returns-clause-few : goal.returns-clause-few
 returns-clause-few c = few_law
+
+pub returns-clause-rising : goal.returns-clause-rising
+returns-clause-rising c = rising_law
 
 pub returns-clause-owned : goal.returns-clause-owned
 returns-clause-owned c p ce arrivals = owned_law ce p arrivals
