@@ -11,6 +11,7 @@ use Rattle.fc_machine.specs.Views.{config_body, query_body, view, circumstance_o
 use Rattle.fc_headline.proofs.Arriving.{IsSilent, moment_aside, arrives, beat_silent, told_silent}
 use Rattle.fc_headline.proofs.Folded.{steps_fold, new_folds}
 use Rattle.fc_headline.proofs.Likes.{bare_append}
+use Rattle.fc_headline.proofs.Registered.{associates}
 use Rattle.fc_headline.proofs.Scopes.{Fine}
 use Rattle.fc_headline.proofs.Sound.{each_held, steps_sound, new_sound, all_pass}
 use Rattle.fc_headline.proofs.Worlds.{in_bare, in_whole}
@@ -118,6 +119,7 @@ module _ {Config Op Subs : Type 0} (g : Ground Config Op Subs) where
         unclaimed = λ z. f.1 (eq-eqb r.element.epoch 0 z);
         owned = subst (Owned ce) (sym a.1.0) (owned_law ce p a.0);
         controller = s.0;
+        associations = associates g law p ce opening subs inputs;
         kept = s.1;
         rests = (each_held (λ ops. true) r.element.records s.2).0;
       }

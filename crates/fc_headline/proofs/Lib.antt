@@ -11,6 +11,8 @@ pub mod Likes
 pub mod Owned
 pub mod Worlds
 pub mod Sound
+pub mod Associated
+pub mod Registered
 pub mod Alone
 pub mod Forgetting
 pub mod Rounds

@@ -1,5 +1,6 @@
 pub mod Folds
 pub mod OneElement
+pub mod Events
 pub mod Headline
 pub mod PlainestMasters
 pub mod PlainestLaws
