@@ -3,6 +3,7 @@
 ghost use Rattle.std.specs.Prelude.{◌≡◌, ℕ, true, List, take};
 ghost use Rattle.std.specs.List.{AllByRecursion};
 ghost use Rattle.fc_headline.specs.CleanRound.{CleanRound};
+ghost use Rattle.fc_headline.specs.Events.{EventsPass, EventsQuiet};
 ghost use Rattle.fc_headline.specs.Folds.{ElementFolds};
 ghost use Rattle.fc_headline.specs.Headline.{Headline};
 ghost use Rattle.fc_headline.specs.OneElement.{ElementKeeps, RestsPass};
@@ -15,12 +16,15 @@ ghost use Rattle.fc_protocol.specs.WorldSteps.{Network};
 use crate::Grounds;
 
 /// Over every list of inputs: the settled configuration is the fold of what was completed, and the working one that of what is held on it; what is completed was prepared before, and each
-/// transaction is settled once at most; scopes that are held are apart, and there are at most 64 of them and at most 4,096 records, which tell what was settled; what is not held has no rests, and each rest came with a Config that was
-/// not too long; and the kept reply has the correlator of the epoch and the sequence.
+/// transaction is settled once at most; scopes rise, those that are held are apart, and there are at most 64 of them and at most 4,096 records, which tell what was settled; what is not held has no rests, and each rest came with a Config
+/// that was not too long; at most 64 associations stand, each of a control element; and the kept reply has the correlator of the epoch and the sequence. What is registered for events passes every test that the opening passes and the store
+/// keeps, and no event is left to tell where the store leaves none.
 pub fn element_folds<G: Grounds>()
     ensures folds { ElementFolds G.basis }
     ensures keeps { ElementKeeps G.basis }
     ensures rests { RestsPass G.basis }
+    ensures events { EventsPass G.basis }
+    ensures quiet { EventsQuiet G.basis }
 {}
 
 /// At every moment of every script, whatever is lost, repeated or reordered, and whichever controllers and elements stop and return: no two elements settle one transaction differently; each that completes one had every participant prepared; each
