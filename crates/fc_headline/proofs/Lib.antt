@@ -11,6 +11,7 @@ pub mod Likes
 pub mod Owned
 pub mod Worlds
 pub mod Sound
+pub mod Instances
 pub mod Associated
 pub mod Registered
 pub mod Alone

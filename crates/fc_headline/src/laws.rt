@@ -1,16 +1,20 @@
 //! The laws of the machine of an element and of the world. Each function has no body: what it ensures holds of the definitions in specs/.
 
-ghost use Rattle.std.specs.Prelude.{◌≡◌, ℕ, true, List, take};
+ghost use Rattle.std.specs.Prelude.{◌≡◌, ◌≢◌, ℕ, true, false, List, take, Option, Some, None};
 ghost use Rattle.std.specs.List.{AllByRecursion};
 ghost use Rattle.fc_headline.specs.CleanRound.{CleanRound};
 ghost use Rattle.fc_headline.specs.Events.{EventsPass, EventsQuiet};
 ghost use Rattle.fc_headline.specs.Folds.{ElementFolds};
 ghost use Rattle.fc_headline.specs.Headline.{Headline};
+ghost use Rattle.fc_headline.specs.Instances.{ByInstances, KeepsRefused};
 ghost use Rattle.fc_headline.specs.OneElement.{ElementKeeps, RestsPass};
 ghost use Rattle.fc_machine.specs.ElementState.{Element};
+ghost use Rattle.fc_machine.specs.Ground.{Commute, Ground, Lawful, Place};
+ghost use Rattle.fc_machine.specs.Instances.{Held, by_instance};
 ghost use Rattle.fc_machine.specs.Messages.{Configuring, Message};
 ghost use Rattle.fc_machine.specs.Views.{Goes, circumstance_of, rest_of, rest_shown};
 ghost use Rattle.fc_machine.specs.WorldSteps.{Step, first_world, run};
+ghost use Rattle.fc_protocol.specs.Scopes.{same_place};
 ghost use Rattle.fc_protocol.specs.WorldSteps.{Network};
 
 use crate::Grounds;
@@ -45,4 +49,13 @@ pub fn element_goes_by_the_protocol<G: Grounds>()
 /// every participant completes it, whatever else is held there, and the master's job is settled. That no message is left comes after some number of deliveries.
 pub fn clean_rounds<G: Grounds>()
     ensures { (opening : G.Config) (subs : G.Subs) (n : Network) (steps : List (Step G.Plan G.Change)) → CleanRound G.basis G.masters (run G.basis G.masters steps (first_world opening subs n)) }
+{}
+
+/// Of a configuration by instances, in which an operation changes the instance that it lies at: operations at different instances commute; where each instance keeps what it refuses, so does the whole; and an operation that lies nowhere is refused,
+/// where the code for that is not 00. So it is a store of which all the laws here hold.
+pub fn a_configuration_by_instances_is_a_store<X, Op, Subs>()
+    ensures apart { (place_of : Op → Option Place) (local : X → Op → X × ℕ) (nowhere no_instance : ℕ) (a b : Op) (p q : Place) → place_of a ≡ Some p → place_of b ≡ Some q → same_place p q ≡ false → Commute (by_instance place_of local nowhere no_instance) a b }
+    ensures refused { (place_of : Op → Option Place) (local : X → Op → X × ℕ) (nowhere no_instance : ℕ) → KeepsRefused local → (c : List (Held X)) (op : Op) → (by_instance place_of local nowhere no_instance c op).1 ≢ 0 → (by_instance place_of local nowhere no_instance c op).0 ≡ c }
+    ensures placeless { (place_of : Op → Option Place) (local : X → Op → X × ℕ) (nowhere no_instance : ℕ) → nowhere ≢ 0 → (c : List (Held X)) (op : Op) → place_of op ≡ None → (by_instance place_of local nowhere no_instance c op).1 ≢ 0 }
+    ensures lawful { (g : Ground (List (Held X)) Op Subs) → ByInstances g → Lawful g }
 {}

@@ -6,5 +6,8 @@ mod laws;
 mod pairs;
 
 pub use basis::Grounds;
-pub use laws::{clean_rounds, element_folds, element_goes_by_the_protocol, headline};
+pub use laws::{
+    a_configuration_by_instances_is_a_store, clean_rounds, element_folds,
+    element_goes_by_the_protocol, headline,
+};
 pub use pairs::{Pairs, first_life};
