@@ -1,6 +1,7 @@
 -- What the words meant, from what was answered of them.
-use Rattle.std.proofs.Common.{◌≡◌, ◌∙◌, sym, ap, refl, ℕ, List, [], Option, None, Some, Result, Err, inl, inr, take, arith}
+use Rattle.std.proofs.Common.{◌≡◌, ◌∙◌, sym, ap, refl, ℕ, List, [], ◌⊎◌, Option, None, Some, Result, Ok, Err, inl, inr, take, arith}
 use Rattle.std.proofs.KnownBytes.{Appends-nil}
+use Rattle.fc_base.specs.Causes.{Rose}
 use Rattle.fc_hub.specs.Hubs.{Held}
 use Rattle.fc_words.specs.declared.commands.Command.{Command}
 use Rattle.fc_words.specs.declared.commands.Command.TheVariants.{Show, Make, Element}
@@ -8,11 +9,17 @@ use Rattle.fc_tool.specs.declared.element.ElementEnd.{ElementEnd}
 use Rattle.fc_tool.specs.declared.make.Made.{Made}
 use Rattle.fc_tool.specs.declared.show.Shown.{Shown}
 use Rattle.fc_tool.specs.declared.stops.Stop.{Stop}
-use Rattle.fc_tool.specs.declared.stops.Stop.TheVariants.{NoMemory}
-use Rattle.fc_tool.specs.ElementRun.{ElementEnds, element_status}
-use Rattle.fc_tool.specs.Make.{MakeEnds, make_status}
+use Rattle.fc_tool.specs.declared.element.ElementEnd.TheVariants as end
+use Rattle.fc_tool.specs.declared.make.Made.TheVariants as made
+use Rattle.fc_tool.specs.declared.show.Shown.TheVariants as shown
+use Rattle.fc_tool.specs.declared.stops.Stop.TheVariants.{NoMemory, WriteFault}
+use Rattle.fc_tool.specs.ElementRun.{ElementEnds, element_status, is_unread as element_unread, is_unserved}
+use Rattle.fc_tool.specs.Endings.{EndCount}
+use Rattle.fc_tool.specs.Make.{MakeEnds, is_unread as make_unread, make_status}
 use Rattle.fc_tool.specs.Run.{UsageEnds, usage_status}
-use Rattle.fc_tool.specs.Show.{ShowEnds, status_of}
+use Rattle.fc_tool.specs.Runs.{ElementRuns, MakeRuns, ShowRuns}
+use Rattle.fc_tool.specs.Show.{ShowEnds, is_unread as show_unread, status_of}
+use Rattle.fc_tool.specs.Stops.{SinkCount}
 use Rattle.fc_tool.proofs.Shows.{none_written, stops_here}
 use Rattle.fc_tool.proofs.Looking.{consumes_none}
 
@@ -50,17 +57,70 @@ show_or_make meant one other = let same = sym one ∙ other in cc same
 pub element_or_make : (meant : Option Command) (fe ce : ℕ) (address : List ℕ) (connections turns : ℕ) → meant ≡ Some (Element fe ce address connections turns) → meant ≡ Some Make → ⊥
 element_or_make meant fe ce address connections turns one other = let same = sym one ∙ other in cc same
 
+-- ---- a run of a command
+
+show_decides : (how : Result Shown Stop) (f f' k k' : ℕ) → EndCount show_unread how f f' → SinkCount how k k' → (Rose f f' → ⊥) → (Rose k k' → ⊥)
+    → (status_of how ≡ 0) ⊎ ((status_of how ≡ 6) ⊎ ((status_of how ≡ 12) ⊎ (status_of how ≡ 9)))
+show_decides (Ok shown.Done) f f' k k' source sink read wrote = inl refl
+show_decides (Ok shown.ReadFault) f f' k k' source sink read wrote = absurd (read source)
+show_decides (Ok shown.Refused) f f' k k' source sink read wrote = inr (inl refl)
+show_decides (Ok shown.TooLong) f f' k k' source sink read wrote = inr (inr (inl refl))
+show_decides (Err WriteFault) f f' k k' source sink read wrote = absurd (wrote sink)
+show_decides (Err NoMemory) f f' k k' source sink read wrote = inr (inr (inr refl))
+
+pub show_runs : (how : Result Shown Stop) (limit status : ℕ) (before left old new : Option (List ℕ)) (f f' k k' : ℕ) → status ≡ status_of how → ShowEnds limit how before left old new
+    → EndCount show_unread how f f' → SinkCount how k k' → ShowRuns limit status before left old new (Rose f f') (Rose k k')
+show_runs how limit status before left old new f f' k k' is ends source sink =
+    record { ends = (how, is, ends); complete = λ read wrote. rw is (show_decides how f f' k k' source sink read wrote) }
+
+make_decides : (how : Result Made Stop) (f f' k k' : ℕ) → EndCount make_unread how f f' → SinkCount how k k' → (Rose f f' → ⊥) → (Rose k k' → ⊥)
+    → (make_status how ≡ 0) ⊎ ((make_status how ≡ 5) ⊎ ((make_status how ≡ 12) ⊎ (make_status how ≡ 9)))
+make_decides (Ok made.Done) f f' k k' source sink read wrote = inl refl
+make_decides (Ok made.ReadFault) f f' k k' source sink read wrote = absurd (read source)
+make_decides (Ok made.Refused) f f' k k' source sink read wrote = inr (inl refl)
+make_decides (Ok made.TooLong) f f' k k' source sink read wrote = inr (inr (inl refl))
+make_decides (Err WriteFault) f f' k k' source sink read wrote = absurd (wrote sink)
+make_decides (Err NoMemory) f f' k k' source sink read wrote = inr (inr (inr refl))
+
+pub make_runs : (how : Result Made Stop) (limit status : ℕ) (before left old new : Option (List ℕ)) (f f' k k' : ℕ) → status ≡ make_status how → MakeEnds limit how before left old new
+    → EndCount make_unread how f f' → SinkCount how k k' → MakeRuns limit status before left old new (Rose f f') (Rose k k')
+make_runs how limit status before left old new f f' k k' is ends source sink =
+    record { ends = (how, is, ends); complete = λ read wrote. rw is (make_decides how f f' k k' source sink read wrote) }
+
+element_decides : (how : Result ElementEnd Stop) (f f' k k' h h' : ℕ) → EndCount element_unread how f f' → SinkCount how k k' → EndCount is_unserved how h h'
+    → (Rose f f' → ⊥) → (Rose k k' → ⊥) → (Rose h h' → ⊥)
+    → (element_status how ≡ 0) ⊎ ((element_status how ≡ 10) ⊎ ((element_status how ≡ 5) ⊎ ((element_status how ≡ 12) ⊎ (element_status how ≡ 9))))
+element_decides (Ok end.Done) f f' k k' h h' source sink hub read wrote served = inl refl
+element_decides (Ok end.Turns) f f' k k' h h' source sink hub read wrote served = inr (inl refl)
+element_decides (Ok end.HubFault) f f' k k' h h' source sink hub read wrote served = absurd (served hub)
+element_decides (Ok end.ReadFault) f f' k k' h h' source sink hub read wrote served = absurd (read source)
+element_decides (Ok end.Refused) f f' k k' h h' source sink hub read wrote served = inr (inr (inl refl))
+element_decides (Ok end.TooLong) f f' k k' h h' source sink hub read wrote served = inr (inr (inr (inl refl)))
+element_decides (Err WriteFault) f f' k k' h h' source sink hub read wrote served = absurd (wrote sink)
+element_decides (Err NoMemory) f f' k k' h h' source sink hub read wrote served = inr (inr (inr (inr refl)))
+
+pub element_runs : (how : Result ElementEnd Stop) (limit id ce turns status : ℕ) (before left : Option (List ℕ)) (done now : Option Held) (old new : Option (List ℕ)) (f f' k k' h h' : ℕ)
+    → status ≡ element_status how → ElementEnds limit id ce turns how before left done now old new
+    → EndCount element_unread how f f' → SinkCount how k k' → EndCount is_unserved how h h' → ElementRuns limit id ce turns status before left done now old new (Rose f f') (Rose k k') (Rose h h')
+element_runs how limit id ce turns status before left done now old new f f' k k' h h' is ends source sink hub =
+    record { ends = (how, is, ends); complete = λ read wrote served. rw is (element_decides how f f' k k' h h' source sink hub read wrote served) }
+
 -- no memory, and nothing was done
 pub usage_none : (known : Option (List ℕ)) → (how : Result (Unit {0}) Stop) × (9 ≡ usage_status how) × UsageEnds how known known
 usage_none known = (Err NoMemory, refl, none_written known _)
 
-pub show_none : (limit : ℕ) (left known : Option (List ℕ)) → (how : Result Shown Stop) × (9 ≡ status_of how) × ShowEnds limit how left left known known
-show_none limit left known =
-    (Err NoMemory, refl, ([], consumes_none left, (omega arith, stops_here _ _ (take limit []) [] (take limit []) known known (record { frames = []; whole = refl; each = tt }) (Appends-nil known))))
+pub show_none : (limit : ℕ) (left known : Option (List ℕ)) (f k : ℕ) → ShowRuns limit 9 left left known known (Rose f f) (Rose k k)
+show_none limit left known f k =
+    show_runs (Err NoMemory) limit 9 left left known known f f k k refl
+    ([], consumes_none left, (omega arith, stops_here _ _ (take limit []) [] (take limit []) known known (record { frames = []; whole = refl; each = tt }) (Appends-nil known)))
+    (inl refl) refl
 
-pub make_none : (limit : ℕ) (left known : Option (List ℕ)) → (how : Result Made Stop) × (9 ≡ make_status how) × MakeEnds limit how left left known known
-make_none limit left known = (Err NoMemory, refl, inr ([], consumes_none left, omega arith, Appends-nil known))
+pub make_none : (limit : ℕ) (left known : Option (List ℕ)) (f k : ℕ) → MakeRuns limit 9 left left known known (Rose f f) (Rose k k)
+make_none limit left known f k =
+    make_runs (Err NoMemory) limit 9 left left known known f f k k refl (inr (([], consumes_none left, omega arith), Appends-nil known)) (inl refl) refl
 
-pub element_none : (limit id ce turns : ℕ) (left : Option (List ℕ)) (held : Option Held) (known : Option (List ℕ))
-    → (how : Result ElementEnd Stop) × (9 ≡ element_status how) × ElementEnds limit id ce turns how left left held held known known
-element_none limit id ce turns left held known = (Err NoMemory, refl, inr (inl ([], consumes_none left, omega arith, refl), Appends-nil known))
+pub element_none : (limit id ce turns : ℕ) (left : Option (List ℕ)) (held : Option Held) (known : Option (List ℕ)) (f k h : ℕ)
+    → ElementRuns limit id ce turns 9 left left held held known known (Rose f f) (Rose k k) (Rose h h)
+element_none limit id ce turns left held known f k h =
+    element_runs (Err NoMemory) limit id ce turns 9 left left held held known known f f k k h h refl (inr (inl ([], consumes_none left, omega arith, refl), Appends-nil known))
+    (inl refl) refl (inl refl)

@@ -1,7 +1,7 @@
 -- How `element` ends, from how its parts ended.
-use Rattle.std.proofs.Common.{◌≡◌, ◌≢◌, ◌<◌, ℕ, List, length, refl, sym, ap, ◌∙◌, inl, inr, [], codes, Option, Ok, Err}
+use Rattle.std.proofs.Common.{◌≡◌, ◌≢◌, ◌<◌, ℕ, List, length, refl, sym, ap, ◌∙◌, inl, inr, [], codes, Option, Result, Ok, Err}
 use Rattle.std.specs.Io.KnownBytes.{Appends, Keeps}
-use Rattle.std.proofs.KnownBytes.{Appends-kept, Appends-nil}
+use Rattle.std.proofs.KnownBytes.{Appends-nil}
 use Rattle.fc_base.specs.Content.{AppendsFront}
 use Rattle.fc_element.specs.ElementMachine.{report_of}
 use Rattle.fc_hub.specs.Hubs.{Held}
@@ -9,13 +9,13 @@ use Rattle.fc_hub.specs.declared.event.HubEvent.{HubEvent}
 use Rattle.fc_tool.specs.declared.acting.NodeStop.{NodeStop}
 use Rattle.fc_tool.specs.declared.acting.NodeStop.TheVariants as node_stop
 use Rattle.fc_tool.specs.declared.element.ElementEnd.{ElementEnd}
-use Rattle.fc_tool.specs.declared.element.ElementEnd.TheVariants.{Done, ReadFault, Refused, Turns}
+use Rattle.fc_tool.specs.declared.element.ElementEnd.TheVariants.{Done, HubFault, ReadFault, Refused, TooLong, Turns}
 use Rattle.fc_tool.specs.declared.input.Look.{Look}
 use Rattle.fc_tool.specs.declared.input.Look.TheVariants as look
 use Rattle.fc_tool.specs.declared.serve.Served.{Served}
 use Rattle.fc_tool.specs.declared.serve.Served.TheVariants as served
 use Rattle.fc_tool.specs.declared.stops.Stop.{Stop}
-use Rattle.fc_tool.specs.declared.stops.Stop.TheVariants.{WriteFault, NoMemory}
+use Rattle.fc_tool.specs.declared.stops.Stop.TheVariants.{NoMemory}
 use Rattle.fc_tool.specs.Acting.{Broke, ServeEnds}
 use Rattle.fc_tool.specs.ElementNode.{NodeState, first_node, node_after}
 use Rattle.fc_library.specs.Documents.{library_of}
@@ -23,33 +23,72 @@ use Rattle.fc_library.specs.Gives.{Gives}
 use Rattle.fc_library.specs.Refusals.{refusal_text}
 use Rattle.fc_library.specs.declared.fault.LibFault.{LibFault}
 use Rattle.fc_library.specs.declared.fault.LibFault.TheVariants as fault
-use Rattle.fc_tool.specs.ElementRun.{ActedSo, DocumentEnds, ElementEnds, ElementWent, IsRun, LookEnds, RunEnds, element_text, refused_text}
-use Rattle.fc_tool.proofs.Shows.{whole_front}
+use Rattle.fc_tool.specs.ElementRun.{ActedSo, DocumentEnds, DocumentLacked, DocumentWent, ElementEnds, ElementLacked, ElementWent, HubLacked, IsRun, JudgedSo, LookEnds, MeansLibrary, RunEnds, RunWent, element_text, look_of, refused_text}
+use Rattle.fc_tool.proofs.Endings.{cut_short, flushed_ends, unflushed_ends, widened}
 
--- it came to an end, and of what belongs to that a front was written
-pub end_stops : (stop : Stop) (end : ElementEnd) (limit id ce turns : ℕ) (bytes : List ℕ) (events : List HubEvent) (before left : Option (List ℕ)) (old new : Option Held) (text now : Option (List ℕ))
-    → ElementWent limit id ce turns end bytes events before left old new → AppendsFront text now (element_text id ce end bytes events)
-    → ElementEnds limit id ce turns (Err stop) before left old new text now
-end_stops WriteFault end limit id ce turns bytes events before left old new text now went front = (end, bytes, events, went, front)
-end_stops NoMemory end limit id ce turns bytes events before left old new text now went front = inl (end, bytes, events, went, front)
+document_lacks : (limit id ce turns : ℕ) (bytes : List ℕ) (before left : Option (List ℕ)) (old new : Option Held) → LookEnds limit (Ok look.Whole) bytes before left
+    → DocumentLacked id ce turns bytes old new → ElementLacked limit id ce turns before left old new
+document_lacks limit id ce turns bytes before left old new read (inl kept) = inl (bytes, read.0, read.2, kept)
+document_lacks limit id ce turns bytes before left old new read (inr (means, lacked)) = inr (bytes, read, means, lacked)
 
--- all was written, and then flushed
+-- the document was read whole
+pub document_ends : (how : Result ElementEnd Stop) (limit id ce turns : ℕ) (bytes : List ℕ) (before left : Option (List ℕ)) (old new : Option Held) (text now : Option (List ℕ))
+    → LookEnds limit (Ok look.Whole) bytes before left → DocumentEnds id ce turns bytes how old new text now → ElementEnds limit id ce turns how before left old new text now
+document_ends how limit id ce turns bytes before left old new text now read ends =
+    widened ElementEnd (DocumentWent id ce turns bytes old new) (ElementWent limit id ce turns before left old new) (DocumentLacked id ce turns bytes old new) (ElementLacked limit id ce turns before left old new) how text now
+    (λ end written went. (bytes, went.0, rw went.1 read, went.2, went.3, went.4))
+    (λ lacked. document_lacks limit id ce turns bytes before left old new read lacked) ends
+
+-- what was written stands after the flush, and where the flush stopped
 pub end_kept : (end : ElementEnd) (limit id ce turns : ℕ) (before left : Option (List ℕ)) (old new : Option Held) (text mid now : Option (List ℕ))
     → ElementEnds limit id ce turns (Ok end) before left old new text mid → Keeps mid now → ElementEnds limit id ce turns (Ok end) before left old new text now
-end_kept end limit id ce turns before left old new text mid now (bytes, events, went, wrote) kept = (bytes, events, went, Appends-kept text mid now _ wrote kept)
+end_kept end limit id ce turns before left old new text mid now ends kept =
+    flushed_ends ElementEnd (ElementWent limit id ce turns before left old new) (ElementLacked limit id ce turns before left old new) end text mid now ends kept
 
--- all was written, and the flush stopped
 pub end_unflushed : (stop : Stop) (end : ElementEnd) (limit id ce turns : ℕ) (before left : Option (List ℕ)) (old new : Option Held) (text mid now : Option (List ℕ))
     → ElementEnds limit id ce turns (Ok end) before left old new text mid → Keeps mid now → ElementEnds limit id ce turns (Err stop) before left old new text now
-end_unflushed stop end limit id ce turns before left old new text mid now (bytes, events, went, wrote) kept =
-    end_stops stop end limit id ce turns bytes events before left old new text now went (whole_front text now _ (Appends-kept text mid now _ wrote kept))
+end_unflushed stop end limit id ce turns before left old new text mid now ends kept =
+    unflushed_ends ElementEnd (ElementWent limit id ce turns before left old new) (ElementLacked limit id ce turns before left old new) stop end text mid now ends kept
+
+-- ---- over the hub, where the document means a library
+
+run_is_whole : (end : ElementEnd) → IsRun end → look_of end ≡ look.Whole
+run_is_whole Done run = refl
+run_is_whole Turns run = refl
+run_is_whole HubFault run = refl
+run_is_whole Refused run = absurd run
+run_is_whole ReadFault run = absurd run
+run_is_whole TooLong run = absurd run
+
+run_is_judged : (end : ElementEnd) (bytes : List ℕ) → IsRun end → MeansLibrary bytes → JudgedSo end bytes
+run_is_judged Done bytes run means = means
+run_is_judged Turns bytes run means = means
+run_is_judged HubFault bytes run means = means
+run_is_judged Refused bytes run means = absurd run
+run_is_judged ReadFault bytes run means = absurd run
+run_is_judged TooLong bytes run means = absurd run
+
+run_text : (id ce : ℕ) (end : ElementEnd) (bytes : List ℕ) (events : List HubEvent) → IsRun end → element_text id ce end [] events ≡ element_text id ce end bytes events
+run_text id ce Done bytes events run = refl
+run_text id ce Turns bytes events run = refl
+run_text id ce HubFault bytes events run = refl
+run_text id ce Refused bytes events run = absurd run
+run_text id ce ReadFault bytes events run = absurd run
+run_text id ce TooLong bytes events run = absurd run
+
+pub library_ends : (how : Result ElementEnd Stop) (id ce turns : ℕ) (bytes : List ℕ) (old new : Option Held) (text now : Option (List ℕ))
+    → MeansLibrary bytes → RunEnds id ce turns how old new text now → DocumentEnds id ce turns bytes how old new text now
+library_ends how id ce turns bytes old new text now means ends =
+    widened ElementEnd (RunWent id ce turns old new) (DocumentWent id ce turns bytes old new) (HubLacked id ce turns old new) (DocumentLacked id ce turns bytes old new) how text now
+    (λ end written went. (went.0, run_is_whole end went.1, run_is_judged end bytes went.1 means, went.2, went.3 ∙ run_text id ce end bytes went.0 went.1))
+    (λ lacked. inr (means, lacked)) ends
 
 -- the report was not written whole
 pub run_stops : (stop : Stop) (end : ElementEnd) (id ce turns : ℕ) (events : List HubEvent) (old new : Option Held) (text now : Option (List ℕ)) (written : List ℕ)
     → IsRun end → ActedSo id ce turns end events old new → written ≡ element_text id ce end [] events → AppendsFront text now written
     → RunEnds id ce turns (Err stop) old new text now
-run_stops WriteFault end id ce turns events old new text now written run acted is front = (end, events, run, acted, rw is at front)
-run_stops NoMemory end id ce turns events old new text now written run acted is front = inl (end, events, run, acted, rw is at front)
+run_stops stop end id ce turns events old new text now written run acted is front =
+    cut_short ElementEnd (RunWent id ce turns old new) (HubLacked id ce turns old new) stop end text now written (events, run, acted, is) front
 
 -- the report on the element that was served was not written whole
 pub report_stops : (stop : Stop) (how : Served) (id ce turns : ℕ) (first last : NodeState) (old new : Option Held) (text now : Option (List ℕ)) (written : List ℕ)
@@ -79,15 +118,16 @@ fault_meant fault.Memory bytes told given = absurd (told refl)
 -- why it means none was written
 pub refused_whole : (f : LibFault) (id ce turns : ℕ) (bytes : List ℕ) (held : Option Held) (text now : Option (List ℕ))
     → library_of bytes ≡ Err f → Appends text now (refusal_text (codes "library") f) → DocumentEnds id ce turns bytes (Ok Refused) held held text now
-refused_whole f id ce turns bytes held text now is wrote = ([], refl, (f, is), refl, rw (ap refused_text (sym is)) at wrote)
+refused_whole f id ce turns bytes held text now is wrote = (refusal_text (codes "library") f, ([], refl, (f, is), refl, ap refused_text (sym is)), wrote)
 
 -- why it means none was not written whole
 pub refused_stops : (stop : Stop) (f : LibFault) (id ce turns : ℕ) (bytes : List ℕ) (held : Option Held) (text now : Option (List ℕ))
     → library_of bytes ≡ Err f → AppendsFront text now (refusal_text (codes "library") f) → DocumentEnds id ce turns bytes (Err stop) held held text now
-refused_stops WriteFault f id ce turns bytes held text now is front = (Refused, [], refl, (f, is), refl, rw (ap refused_text (sym is)) at front)
-refused_stops NoMemory f id ce turns bytes held text now is front = inl (Refused, [], refl, (f, is), refl, rw (ap refused_text (sym is)) at front)
+refused_stops stop f id ce turns bytes held text now is front =
+    cut_short ElementEnd (DocumentWent id ce turns bytes held held) (DocumentLacked id ce turns bytes held held) stop Refused text now (refusal_text (codes "library") f)
+    ([], refl, (f, is), refl, ap refused_text (sym is)) front
 
 -- the input can't be read
 pub unread_ends : (how : Look) (limit id ce turns : ℕ) (bytes : List ℕ) (before left : Option (List ℕ)) (held : Option Held) (known : Option (List ℕ))
     → LookEnds limit (Ok how) bytes before left → how ≡ look.ReadFault → ElementEnds limit id ce turns (Ok ReadFault) before left held held known known
-unread_ends how limit id ce turns bytes before left held known read unread = (bytes, [], (rw unread at read, tt, refl), Appends-nil known)
+unread_ends how limit id ce turns bytes before left held known read unread = ([], (bytes, [], rw unread at read, tt, refl, refl), Appends-nil known)

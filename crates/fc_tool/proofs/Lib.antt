@@ -3,6 +3,7 @@ pub mod Bytes
 pub mod Commands
 pub mod Cut
 pub mod Ending
+mod Endings
 pub mod Hearing
 pub mod Judged
 pub mod Looking

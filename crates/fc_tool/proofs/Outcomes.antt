@@ -27,26 +27,26 @@ whole_long limit bytes one two l k (consumed, end, le) (consumes, long) =
 
 over_turns : (limit id ce turns : ℕ) (bytes : List ℕ) (held : Held) (l k : Option (List ℕ)) (new other : Option Held) (o p n m : Option (List ℕ))
     → ElementEnds limit id ce turns (Ok Done) (Some bytes) l (Some held) new o n → ElementEnds limit id ce turns (Ok Turns) (Some bytes) k (Some held) other p m → ⊥
-over_turns limit id ce turns bytes held l k new other o p n m (read, events, (seen, judged, (few, went, all)), wrote) (reads, others, (looked, weighed, (many, (coming, split, goes))), writes) =
+over_turns limit id ce turns bytes held l k new other o p n m (text, (read, events, seen, judged, (few, went, all), is), wrote) (line, (reads, others, looked, weighed, (many, (coming, split, goes)), says), writes) =
     absurd (omega (arith, ap length all, ap length split, length-append others coming))
 
 pub one_outcome : (e f : ElementEnd) (limit id ce turns : ℕ) (bytes : List ℕ) (held : Held) (l k : Option (List ℕ)) (new other : Option Held) (o p n m : Option (List ℕ)) → IsOutcome e → IsOutcome f
     → ElementEnds limit id ce turns (Ok e) (Some bytes) l (Some held) new o n → ElementEnds limit id ce turns (Ok f) (Some bytes) k (Some held) other p m → e ≡ f
 one_outcome Done Done limit id ce turns bytes held l k new other o p n m a b x y = refl
 one_outcome Done Turns limit id ce turns bytes held l k new other o p n m a b x y = absurd (over_turns limit id ce turns bytes held l k new other o p n m x y)
-one_outcome Done Refused limit id ce turns bytes held l k new other o p n m a b x y = absurd (library_or_none limit bytes x.0 y.0 l k x.2.0 y.2.0 x.2.1 y.2.1)
-one_outcome Done TooLong limit id ce turns bytes held l k new other o p n m a b x y = absurd (whole_long limit bytes x.0 y.0 l k x.2.0 y.2.0)
+one_outcome Done Refused limit id ce turns bytes held l k new other o p n m a b x y = absurd (library_or_none limit bytes x.1.0 y.1.0 l k x.1.2 y.1.2 x.1.3 y.1.3)
+one_outcome Done TooLong limit id ce turns bytes held l k new other o p n m a b x y = absurd (whole_long limit bytes x.1.0 y.1.0 l k x.1.2 y.1.2)
 one_outcome Turns Done limit id ce turns bytes held l k new other o p n m a b x y = absurd (over_turns limit id ce turns bytes held k l other new p o m n y x)
 one_outcome Turns Turns limit id ce turns bytes held l k new other o p n m a b x y = refl
-one_outcome Turns Refused limit id ce turns bytes held l k new other o p n m a b x y = absurd (library_or_none limit bytes x.0 y.0 l k x.2.0 y.2.0 x.2.1 y.2.1)
-one_outcome Turns TooLong limit id ce turns bytes held l k new other o p n m a b x y = absurd (whole_long limit bytes x.0 y.0 l k x.2.0 y.2.0)
-one_outcome Refused Done limit id ce turns bytes held l k new other o p n m a b x y = absurd (library_or_none limit bytes y.0 x.0 k l y.2.0 x.2.0 y.2.1 x.2.1)
-one_outcome Refused Turns limit id ce turns bytes held l k new other o p n m a b x y = absurd (library_or_none limit bytes y.0 x.0 k l y.2.0 x.2.0 y.2.1 x.2.1)
+one_outcome Turns Refused limit id ce turns bytes held l k new other o p n m a b x y = absurd (library_or_none limit bytes x.1.0 y.1.0 l k x.1.2 y.1.2 x.1.3 y.1.3)
+one_outcome Turns TooLong limit id ce turns bytes held l k new other o p n m a b x y = absurd (whole_long limit bytes x.1.0 y.1.0 l k x.1.2 y.1.2)
+one_outcome Refused Done limit id ce turns bytes held l k new other o p n m a b x y = absurd (library_or_none limit bytes y.1.0 x.1.0 k l y.1.2 x.1.2 y.1.3 x.1.3)
+one_outcome Refused Turns limit id ce turns bytes held l k new other o p n m a b x y = absurd (library_or_none limit bytes y.1.0 x.1.0 k l y.1.2 x.1.2 y.1.3 x.1.3)
 one_outcome Refused Refused limit id ce turns bytes held l k new other o p n m a b x y = refl
-one_outcome Refused TooLong limit id ce turns bytes held l k new other o p n m a b x y = absurd (whole_long limit bytes x.0 y.0 l k x.2.0 y.2.0)
-one_outcome TooLong Done limit id ce turns bytes held l k new other o p n m a b x y = absurd (whole_long limit bytes y.0 x.0 k l y.2.0 x.2.0)
-one_outcome TooLong Turns limit id ce turns bytes held l k new other o p n m a b x y = absurd (whole_long limit bytes y.0 x.0 k l y.2.0 x.2.0)
-one_outcome TooLong Refused limit id ce turns bytes held l k new other o p n m a b x y = absurd (whole_long limit bytes y.0 x.0 k l y.2.0 x.2.0)
+one_outcome Refused TooLong limit id ce turns bytes held l k new other o p n m a b x y = absurd (whole_long limit bytes x.1.0 y.1.0 l k x.1.2 y.1.2)
+one_outcome TooLong Done limit id ce turns bytes held l k new other o p n m a b x y = absurd (whole_long limit bytes y.1.0 x.1.0 k l y.1.2 x.1.2)
+one_outcome TooLong Turns limit id ce turns bytes held l k new other o p n m a b x y = absurd (whole_long limit bytes y.1.0 x.1.0 k l y.1.2 x.1.2)
+one_outcome TooLong Refused limit id ce turns bytes held l k new other o p n m a b x y = absurd (whole_long limit bytes y.1.0 x.1.0 k l y.1.2 x.1.2)
 one_outcome TooLong TooLong limit id ce turns bytes held l k new other o p n m a b x y = refl
 one_outcome ReadFault f limit id ce turns bytes held l k new other o p n m a b x y = absurd a
 one_outcome HubFault f limit id ce turns bytes held l k new other o p n m a b x y = absurd a

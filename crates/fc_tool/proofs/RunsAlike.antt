@@ -38,31 +38,31 @@ runs_alike : (one other : Result ElementEnd Stop) (limit id ce turns : ℕ) (doc
     → ElementEnds limit id ce turns one (Some document) l (Some (holds these taken done)) first (Some old) new
     → ElementEnds limit id ce turns other (Some document) k (Some (holds those taken done)) second (Some old) renewed
     → EndAlike one other first second new renewed
-runs_alike (Ok Done) (Ok Done) limit id ce turns document these those taken done l k first second old new renewed same a b (bytes, events, (seen, judged, (few, went, all)), wrote) (read, others, (looked, weighed, (less, goes, whole)), writes) =
+runs_alike (Ok Done) (Ok Done) limit id ce turns document these those taken done l k first second old new renewed same a b (said, (bytes, events, seen, judged, (few, went, all), is), wrote) (told, (read, others, looked, weighed, (less, goes, whole), says), writes) =
     record {
       status = refl;
       acts = acts_went these events taken id ce done first all went ∙ ap (λ acts. Some (unnumbered done ++ acts)) (same.acts taken) ∙ sym (acts_went those others taken id ce done second whole goes);
       text = same_text old new renewed _ _ wrote writes
-          (ap (report_after id ce) (sym all) ∙ ap (λ n. report_of n.element) same.state ∙ ap (report_after id ce) whole);
+          (is ∙ ap (report_after id ce) (sym all) ∙ ap (λ n. report_of n.element) same.state ∙ ap (report_after id ce) whole ∙ sym says);
     }
-runs_alike (Ok Refused) (Ok Refused) limit id ce turns document these those taken done l k first second old new renewed same a b (bytes, events, (seen, judged, kept), wrote) (read, others, (looked, weighed, stays), writes) =
+runs_alike (Ok Refused) (Ok Refused) limit id ce turns document these those taken done l k first second old new renewed same a b (said, (bytes, events, seen, judged, kept, is), wrote) (told, (read, others, looked, weighed, stays, says), writes) =
     record {
       status = refl;
       acts = ap acts_held kept ∙ sym (ap acts_held stays);
-      text = same_text old new renewed _ _ wrote writes (ap (λ b. refused_text (library_of b)) (read_twice limit document bytes read l k seen looked));
+      text = same_text old new renewed _ _ wrote writes (is ∙ ap (λ b. refused_text (library_of b)) (read_twice limit document bytes read l k seen looked) ∙ sym says);
     }
-runs_alike (Ok TooLong) (Ok TooLong) limit id ce turns document these those taken done l k first second old new renewed same a b (bytes, events, (seen, judged, kept), wrote) (read, others, (looked, weighed, stays), writes) =
+runs_alike (Ok TooLong) (Ok TooLong) limit id ce turns document these those taken done l k first second old new renewed same a b (said, (bytes, events, seen, judged, kept, is), wrote) (told, (read, others, looked, weighed, stays, says), writes) =
     record {
       status = refl;
       acts = ap acts_held kept ∙ sym (ap acts_held stays);
-      text = same_text old new renewed _ _ wrote writes refl;
+      text = same_text old new renewed _ _ wrote writes (is ∙ sym says);
     }
-runs_alike (Ok Done) (Ok Refused) limit id ce turns document these those taken done l k first second old new renewed same a b x y = absurd (library_or_none limit document x.0 y.0 l k x.2.0 y.2.0 x.2.1 y.2.1)
-runs_alike (Ok Done) (Ok TooLong) limit id ce turns document these those taken done l k first second old new renewed same a b x y = absurd (whole_long limit document x.0 y.0 l k x.2.0 y.2.0)
-runs_alike (Ok Refused) (Ok Done) limit id ce turns document these those taken done l k first second old new renewed same a b x y = absurd (library_or_none limit document y.0 x.0 k l y.2.0 x.2.0 y.2.1 x.2.1)
-runs_alike (Ok Refused) (Ok TooLong) limit id ce turns document these those taken done l k first second old new renewed same a b x y = absurd (whole_long limit document x.0 y.0 l k x.2.0 y.2.0)
-runs_alike (Ok TooLong) (Ok Done) limit id ce turns document these those taken done l k first second old new renewed same a b x y = absurd (whole_long limit document y.0 x.0 k l y.2.0 x.2.0)
-runs_alike (Ok TooLong) (Ok Refused) limit id ce turns document these those taken done l k first second old new renewed same a b x y = absurd (whole_long limit document y.0 x.0 k l y.2.0 x.2.0)
+runs_alike (Ok Done) (Ok Refused) limit id ce turns document these those taken done l k first second old new renewed same a b x y = absurd (library_or_none limit document x.1.0 y.1.0 l k x.1.2 y.1.2 x.1.3 y.1.3)
+runs_alike (Ok Done) (Ok TooLong) limit id ce turns document these those taken done l k first second old new renewed same a b x y = absurd (whole_long limit document x.1.0 y.1.0 l k x.1.2 y.1.2)
+runs_alike (Ok Refused) (Ok Done) limit id ce turns document these those taken done l k first second old new renewed same a b x y = absurd (library_or_none limit document y.1.0 x.1.0 k l y.1.2 x.1.2 y.1.3 x.1.3)
+runs_alike (Ok Refused) (Ok TooLong) limit id ce turns document these those taken done l k first second old new renewed same a b x y = absurd (whole_long limit document x.1.0 y.1.0 l k x.1.2 y.1.2)
+runs_alike (Ok TooLong) (Ok Done) limit id ce turns document these those taken done l k first second old new renewed same a b x y = absurd (whole_long limit document y.1.0 x.1.0 k l y.1.2 x.1.2)
+runs_alike (Ok TooLong) (Ok Refused) limit id ce turns document these those taken done l k first second old new renewed same a b x y = absurd (whole_long limit document y.1.0 x.1.0 k l y.1.2 x.1.2)
 runs_alike (Ok Turns) other limit id ce turns document these those taken done l k first second old new renewed same a b x y = absurd a
 runs_alike (Ok ReadFault) other limit id ce turns document these those taken done l k first second old new renewed same a b x y = absurd a
 runs_alike (Ok HubFault) other limit id ce turns document these those taken done l k first second old new renewed same a b x y = absurd a

@@ -12,7 +12,7 @@ use Rattle.fc_tool.specs.declared.show.Shown.{Shown}
 use Rattle.fc_tool.specs.declared.show.Shown.TheVariants.{Done, ReadFault, Refused, TooLong}
 use Rattle.fc_tool.specs.declared.stops.Stop.{Stop}
 use Rattle.fc_tool.specs.Text.{refusal_text}
-use Rattle.fc_tool.specs.Show.{Reaches, text_of, IsNextText, StoppedAt, PieceEnds, RestEnds, ShowEnds, SourceCount}
+use Rattle.fc_tool.specs.Show.{Reaches, text_of, IsNextText, StoppedAt, PieceEnds, RestEnds, ShowEnds}
 use Rattle.fc_tool.proofs.Reaching.{reaches_fed, reaches_on}
 
 -- ---- what was written
@@ -226,10 +226,3 @@ flush_stops Refused stop limit before left old mid new (bytes, consumed, (le, hs
 )
 flush_stops TooLong stop limit before left old mid new (bytes, consumed, (lt, hs, rest, there, partial, lines)) kept =
     (bytes, consumed, (omega arith, (hs, rest, [], there, inl refl, rw append-nil (whole_front old new _ (Appends-kept old mid new _ lines kept)))))
-
--- the count of the source where the flush stopped
-pub stop_source : (shown : Shown) (stop : Stop) (before now : ℕ) → SourceCount (Ok shown) before now → SourceCount (Err stop) before now
-stop_source Done stop before now count = inl count
-stop_source ReadFault stop before now count = inr count
-stop_source Refused stop before now count = inl count
-stop_source TooLong stop before now count = inl count

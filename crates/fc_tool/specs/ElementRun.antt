@@ -1,8 +1,7 @@
 -- What `element` reads, does on its hub and writes, by how it ends. This profile's own.
-use Rattle.std.specs.Prelude.{◌≡◌, ◌⊎◌, ◌<◌, ◌≤◌, ◌+◌, ℕ, List, [], length, codes, Option, Result, Ok, Err, ⊤}
-use Rattle.std.specs.Io.KnownBytes.{Appends, Consumes, IsAtEnd}
+use Rattle.std.specs.Prelude.{◌≡◌, ◌⊎◌, ◌<◌, ◌≤◌, ◌+◌, ℕ, Bool, true, false, List, [], length, codes, Option, Result, Ok, Err, ⊤}
+use Rattle.std.specs.Io.KnownBytes.{Consumes, IsAtEnd}
 use Rattle.fc_base.specs.Causes.{Rose}
-use Rattle.fc_base.specs.Content.{AppendsFront}
 use Rattle.fc_hub.specs.Hubs.{Held}
 use Rattle.fc_hub.specs.declared.event.HubEvent.{HubEvent}
 use Rattle.fc_base.specs.declared.faults.Memory.{Memory}
@@ -16,10 +15,10 @@ use Rattle.fc_tool.specs.declared.element.ElementEnd.TheVariants.{Done, ReadFaul
 use Rattle.fc_tool.specs.declared.input.Look.{Look}
 use Rattle.fc_tool.specs.declared.input.Look.TheVariants as look
 use Rattle.fc_tool.specs.declared.stops.Stop.{Stop}
-use Rattle.fc_tool.specs.declared.stops.Stop.TheVariants.{WriteFault, NoMemory}
 use Rattle.fc_tool.specs.declared.acting.NodeStop.TheVariants as stop
 use Rattle.fc_tool.specs.Acting.{AreAll, Broke, Went}
 use Rattle.fc_tool.specs.ElementNode.{first_node, node_after}
+use Rattle.fc_tool.specs.Endings.{CommandEnds}
 use Rattle.fc_tool.specs.Stops.{stop_status}
 
 -- What was seen of an input of which so many bytes are looked at, and which of its bytes were read: it was read whole, it is
@@ -102,16 +101,11 @@ element_text id ce Refused bytes events = refused_text (library_of bytes)
 element_text id ce ReadFault bytes events = []
 element_text id ce TooLong bytes events = []
 
--- `element` came to an end over these bytes and these events: all of it but what was written
-abbrev pub ElementWent : ℕ → ℕ → ℕ → ℕ → ElementEnd → List ℕ → List HubEvent → Option (List ℕ) → Option (List ℕ) → Option Held → Option Held → Type 0
-ElementWent limit id ce turns end bytes events before left old new =
-    LookEnds limit (Ok (look_of end)) bytes before left × JudgedSo end bytes × ActedSo id ce turns end events old new
-
--- it came to some end, and of what belongs to that a front was written
-abbrev pub ElementCut : ℕ → ℕ → ℕ → ℕ → Option (List ℕ) → Option (List ℕ) → Option Held → Option Held → Option (List ℕ) → Option (List ℕ) → Type 0
-ElementCut limit id ce turns before left old new text now =
-    (end : ElementEnd) × (bytes : List ℕ) × (events : List HubEvent) × ElementWent limit id ce turns end bytes events before left old new
-    × AppendsFront text now (element_text id ce end bytes events)
+-- `element` came to an end over an input of which so many bytes are looked at, and over these events, and this is to be written
+abbrev pub ElementWent : ℕ → ℕ → ℕ → ℕ → Option (List ℕ) → Option (List ℕ) → Option Held → Option Held → ElementEnd → List ℕ → Type 0
+ElementWent limit id ce turns before left old new end written =
+    (bytes : List ℕ) × (events : List HubEvent) × LookEnds limit (Ok (look_of end)) bytes before left × JudgedSo end bytes × ActedSo id ce turns end events old new
+    × (written ≡ element_text id ce end bytes events)
 
 -- out of memory over the hub: before the first event, or over one that is among those to be taken
 abbrev pub HubLacked : ℕ → ℕ → ℕ → Option Held → Option Held → Type 0
@@ -126,31 +120,21 @@ ElementLacked limit id ce turns before left old new =
 
 -- How `element` ends: what was read, what was done on the hub, and what was written.
 abbrev pub ElementEnds : ℕ → ℕ → ℕ → ℕ → Result ElementEnd Stop → Option (List ℕ) → Option (List ℕ) → Option Held → Option Held → Option (List ℕ) → Option (List ℕ) → Type 0
--- all was written
-ElementEnds limit id ce turns (Ok end) before left old new text now =
-    (bytes : List ℕ) × (events : List HubEvent) × ElementWent limit id ce turns end bytes events before left old new
-    × Appends text now (element_text id ce end bytes events)
--- the sink failed
-ElementEnds limit id ce turns (Err WriteFault) before left old new text now = ElementCut limit id ce turns before left old new text now
--- out of memory for what was to be written, or before anything was
-ElementEnds limit id ce turns (Err NoMemory) before left old new text now =
-    ElementCut limit id ce turns before left old new text now
-    ⊎ (ElementLacked limit id ce turns before left old new × Appends text now [])
+ElementEnds limit id ce turns how before left old new text now =
+    CommandEnds ElementEnd (ElementWent limit id ce turns before left old new) (ElementLacked limit id ce turns before left old new) how text now
 
 -- the same of the hub and of what was written alone, once the input was read whole
-abbrev pub DocumentCut : ℕ → ℕ → ℕ → List ℕ → Option Held → Option Held → Option (List ℕ) → Option (List ℕ) → Type 0
-DocumentCut id ce turns bytes old new text now =
-    (end : ElementEnd) × (events : List HubEvent) × (look_of end ≡ look.Whole) × JudgedSo end bytes × ActedSo id ce turns end events old new
-    × AppendsFront text now (element_text id ce end bytes events)
+abbrev pub DocumentWent : ℕ → ℕ → ℕ → List ℕ → Option Held → Option Held → ElementEnd → List ℕ → Type 0
+DocumentWent id ce turns bytes old new end written =
+    (events : List HubEvent) × (look_of end ≡ look.Whole) × JudgedSo end bytes × ActedSo id ce turns end events old new
+    × (written ≡ element_text id ce end bytes events)
+
+abbrev pub DocumentLacked : ℕ → ℕ → ℕ → List ℕ → Option Held → Option Held → Type 0
+DocumentLacked id ce turns bytes old new = (new ≡ old) ⊎ (MeansLibrary bytes × HubLacked id ce turns old new)
 
 abbrev pub DocumentEnds : ℕ → ℕ → ℕ → List ℕ → Result ElementEnd Stop → Option Held → Option Held → Option (List ℕ) → Option (List ℕ) → Type 0
-DocumentEnds id ce turns bytes (Ok end) old new text now =
-    (events : List HubEvent) × (look_of end ≡ look.Whole) × JudgedSo end bytes × ActedSo id ce turns end events old new
-    × Appends text now (element_text id ce end bytes events)
-DocumentEnds id ce turns bytes (Err WriteFault) old new text now = DocumentCut id ce turns bytes old new text now
-DocumentEnds id ce turns bytes (Err NoMemory) old new text now =
-    DocumentCut id ce turns bytes old new text now
-    ⊎ (((new ≡ old) ⊎ (MeansLibrary bytes × HubLacked id ce turns old new)) × Appends text now [])
+DocumentEnds id ce turns bytes how old new text now =
+    CommandEnds ElementEnd (DocumentWent id ce turns bytes old new) (DocumentLacked id ce turns bytes old new) how text now
 
 -- the endings over the hub
 abbrev pub IsRun : ElementEnd → Type 0
@@ -162,35 +146,29 @@ IsRun ReadFault = ⊥
 IsRun TooLong = ⊥
 
 -- the same once the document was seen to mean a library, whatever its bytes are
-abbrev pub RunCut : ℕ → ℕ → ℕ → Option Held → Option Held → Option (List ℕ) → Option (List ℕ) → Type 0
-RunCut id ce turns old new text now =
-    (end : ElementEnd) × (events : List HubEvent) × IsRun end × ActedSo id ce turns end events old new
-    × AppendsFront text now (element_text id ce end [] events)
+abbrev pub RunWent : ℕ → ℕ → ℕ → Option Held → Option Held → ElementEnd → List ℕ → Type 0
+RunWent id ce turns old new end written =
+    (events : List HubEvent) × IsRun end × ActedSo id ce turns end events old new × (written ≡ element_text id ce end [] events)
 
 abbrev pub RunEnds : ℕ → ℕ → ℕ → Result ElementEnd Stop → Option Held → Option Held → Option (List ℕ) → Option (List ℕ) → Type 0
-RunEnds id ce turns (Ok end) old new text now =
-    (events : List HubEvent) × IsRun end × ActedSo id ce turns end events old new × Appends text now (element_text id ce end [] events)
-RunEnds id ce turns (Err WriteFault) old new text now = RunCut id ce turns old new text now
-RunEnds id ce turns (Err NoMemory) old new text now = RunCut id ce turns old new text now ⊎ (HubLacked id ce turns old new × Appends text now [])
+RunEnds id ce turns how old new text now = CommandEnds ElementEnd (RunWent id ce turns old new) (HubLacked id ce turns old new) how text now
 
--- the counts of the source and of the hub; the writing may stop after one of them has failed
-abbrev pub ElementSource : Result ElementEnd Stop → ℕ → ℕ → Type 0
-ElementSource (Ok ReadFault) before now = Rose before now
-ElementSource (Ok Done) before now = now ≡ before
-ElementSource (Ok HubFault) before now = now ≡ before
-ElementSource (Ok Refused) before now = now ≡ before
-ElementSource (Ok Turns) before now = now ≡ before
-ElementSource (Ok TooLong) before now = now ≡ before
-ElementSource (Err stop) before now = (now ≡ before) ⊎ Rose before now
+-- the ends that tell that the input can't be read, and that the hub failed
+abbrev pub is_unread : ElementEnd → Bool
+is_unread ReadFault = true
+is_unread Done = false
+is_unread HubFault = false
+is_unread Refused = false
+is_unread Turns = false
+is_unread TooLong = false
 
-abbrev pub ElementHub : Result ElementEnd Stop → ℕ → ℕ → Type 0
-ElementHub (Ok HubFault) before now = Rose before now
-ElementHub (Ok Done) before now = now ≡ before
-ElementHub (Ok ReadFault) before now = now ≡ before
-ElementHub (Ok Refused) before now = now ≡ before
-ElementHub (Ok Turns) before now = now ≡ before
-ElementHub (Ok TooLong) before now = now ≡ before
-ElementHub (Err stop) before now = (now ≡ before) ⊎ Rose before now
+abbrev pub is_unserved : ElementEnd → Bool
+is_unserved HubFault = true
+is_unserved Done = false
+is_unserved ReadFault = false
+is_unserved Refused = false
+is_unserved Turns = false
+is_unserved TooLong = false
 
 -- the status of each ending
 abbrev pub element_status : Result ElementEnd Stop → ℕ

@@ -1,12 +1,14 @@
 pub mod Acting
 pub mod ElementNode
 pub mod ElementRun
+pub mod Endings
 pub mod Limits
 pub mod Make
 pub mod Nexts
 pub mod OpenPeers
 pub mod Pieces
 pub mod Run
+pub mod Runs
 pub mod RunsAlike
 pub mod Show
 pub mod Stops

@@ -1,9 +1,7 @@
 -- What `make` writes of the text that it read, by how it ends. This profile's own.
-use Rattle.std.specs.Prelude.{◌≡◌, ◌⊎◌, ◌≤◌, ℕ, List, [], ◌++◌, length, codes, decimal, Option, Result, Ok, Err, ⊤}
+use Rattle.std.specs.Prelude.{◌≡◌, ◌⊎◌, ◌≤◌, ℕ, Bool, true, false, List, [], ◌++◌, length, codes, decimal, Option, Result, Ok, Err, ⊤}
 use Rattle.std.specs.List.{flat_map}
-use Rattle.std.specs.Io.KnownBytes.{Appends, Consumes}
-use Rattle.fc_base.specs.Causes.{Rose}
-use Rattle.fc_base.specs.Content.{AppendsFront}
+use Rattle.std.specs.Io.KnownBytes.{Consumes}
 use Rattle.fc_msg.specs.Messages.{canonical}
 use Rattle.fc_msg.specs.declared.message.Message.{Message}
 use Rattle.fc_text.specs.FirstMisfit.{FirstMisfit, FitsMessages, IsWithin, TooLongAt}
@@ -15,8 +13,8 @@ use Rattle.fc_tool.specs.declared.input.Look.TheVariants as look
 use Rattle.fc_tool.specs.declared.make.Made.{Made}
 use Rattle.fc_tool.specs.declared.make.Made.TheVariants.{Done, ReadFault, Refused, TooLong}
 use Rattle.fc_tool.specs.declared.stops.Stop.{Stop}
-use Rattle.fc_tool.specs.declared.stops.Stop.TheVariants.{WriteFault, NoMemory}
 use Rattle.fc_tool.specs.ElementRun.{LookEnds}
+use Rattle.fc_tool.specs.Endings.{CommandEnds}
 use Rattle.fc_tool.specs.Stops.{stop_status}
 
 -- the canonical bytes of the messages
@@ -55,44 +53,31 @@ Makes Refused bytes written = (at : TextPlace) × (text_in bytes ≡ Err at) × 
 Makes ReadFault bytes written = written ≡ []
 Makes TooLong bytes written = written ≡ []
 
--- `make` came to an end over these bytes, of which this is to be written
-abbrev pub MakeWent : ℕ → Made → List ℕ → List ℕ → Option (List ℕ) → Option (List ℕ) → Type 0
-MakeWent limit end bytes written before left = LookEnds limit (Ok (look_of end)) bytes before left × Makes end bytes written
+-- `make` came to an end over an input of which so many bytes are looked at, and this is to be written
+abbrev pub MakeWent : ℕ → Option (List ℕ) → Option (List ℕ) → Made → List ℕ → Type 0
+MakeWent limit before left end written = (bytes : List ℕ) × LookEnds limit (Ok (look_of end)) bytes before left × Makes end bytes written
 
--- it came to some end, and of what is to be written then a front was
-abbrev pub MakeCut : ℕ → Option (List ℕ) → Option (List ℕ) → Option (List ℕ) → Option (List ℕ) → Type 0
-MakeCut limit before left old new =
-    (end : Made) × (bytes : List ℕ) × (written : List ℕ) × MakeWent limit end bytes written before left × AppendsFront old new written
+-- out of memory before it came to one
+abbrev pub MakeLacked : ℕ → Option (List ℕ) → Option (List ℕ) → Type 0
+MakeLacked limit before left = (bytes : List ℕ) × Consumes before left bytes × (length bytes ≤ limit)
 
 -- How `make` ends: what was read of an input of which so many bytes are looked at, and what was written.
 abbrev pub MakeEnds : ℕ → Result Made Stop → Option (List ℕ) → Option (List ℕ) → Option (List ℕ) → Option (List ℕ) → Type 0
--- all was written
-MakeEnds limit (Ok end) before left old new =
-    (bytes : List ℕ) × (written : List ℕ) × MakeWent limit end bytes written before left × Appends old new written
--- the sink failed
-MakeEnds limit (Err WriteFault) before left old new = MakeCut limit before left old new
--- out of memory for what was to be written, or before anything was
-MakeEnds limit (Err NoMemory) before left old new =
-    MakeCut limit before left old new
-    ⊎ ((bytes : List ℕ) × Consumes before left bytes × (length bytes ≤ limit) × Appends old new [])
+MakeEnds limit how before left old new = CommandEnds Made (MakeWent limit before left) (MakeLacked limit before left) how old new
 
 -- the same of what was written alone, once the input was read whole
-abbrev pub TextCut : List ℕ → Option (List ℕ) → Option (List ℕ) → Type 0
-TextCut bytes old new =
-    (end : Made) × (written : List ℕ) × (look_of end ≡ look.Whole) × Makes end bytes written × AppendsFront old new written
+abbrev pub TextWent : List ℕ → Made → List ℕ → Type 0
+TextWent bytes end written = (look_of end ≡ look.Whole) × Makes end bytes written
 
 abbrev pub TextEnds : List ℕ → Result Made Stop → Option (List ℕ) → Option (List ℕ) → Type 0
-TextEnds bytes (Ok end) old new = (written : List ℕ) × (look_of end ≡ look.Whole) × Makes end bytes written × Appends old new written
-TextEnds bytes (Err WriteFault) old new = TextCut bytes old new
-TextEnds bytes (Err NoMemory) old new = TextCut bytes old new ⊎ Appends old new []
+TextEnds bytes how old new = CommandEnds Made (TextWent bytes) ⊤ how old new
 
--- the count of the source; the writing may stop after a read has failed
-abbrev pub MakeSource : Result Made Stop → ℕ → ℕ → Type 0
-MakeSource (Ok Done) before now = now ≡ before
-MakeSource (Ok ReadFault) before now = Rose before now
-MakeSource (Ok Refused) before now = now ≡ before
-MakeSource (Ok TooLong) before now = now ≡ before
-MakeSource (Err stop) before now = (now ≡ before) ⊎ Rose before now
+-- the ends that tell that the input can't be read
+abbrev pub is_unread : Made → Bool
+is_unread ReadFault = true
+is_unread Done = false
+is_unread Refused = false
+is_unread TooLong = false
 
 -- the endings that tell what the input is
 abbrev pub IsTold : Made → Type 0

@@ -1,8 +1,7 @@
 -- What `show` writes of the bytes that it read, by how it ends. This profile's own.
-use Rattle.std.specs.Prelude.{◌≡◌, ◌≢◌, ◌⊎◌, ◌≤◌, ◌+◌, ◌-◌, ℕ, List, [], ◌∷◌, ◌++◌, length, take, Option, Some, None, Result, Ok, Err, ⊤}
+use Rattle.std.specs.Prelude.{◌≡◌, ◌≢◌, ◌⊎◌, ◌≤◌, ◌+◌, ◌-◌, ℕ, Bool, true, false, List, [], ◌∷◌, ◌++◌, length, take, Option, Some, None, Result, Ok, Err, ⊤}
 use Rattle.std.specs.List.{flat_map}
 use Rattle.std.specs.Io.KnownBytes.{Appends, Consumes, IsAtEnd}
-use Rattle.fc_base.specs.Causes.{Rose}
 use Rattle.fc_base.specs.Content.{AppendsFront}
 use Rattle.fc_wire.specs.Frames.{joined, IsPartial, frame_len}
 use Rattle.fc_msg.specs.Faults.{fault_of}
@@ -105,13 +104,12 @@ EndsSo limit (Err stop) bytes left old new =
 abbrev pub ShowEnds : ℕ → Result Shown Stop → Option (List ℕ) → Option (List ℕ) → Option (List ℕ) → Option (List ℕ) → Type 0
 ShowEnds limit how before left old new = (bytes : List ℕ) × Consumes before left bytes × EndsSo limit how bytes left old new
 
--- the count of the source; the writing may stop after a read has failed
-abbrev pub SourceCount : Result Shown Stop → ℕ → ℕ → Type 0
-SourceCount (Ok Done) before now = now ≡ before
-SourceCount (Ok ReadFault) before now = Rose before now
-SourceCount (Ok Refused) before now = now ≡ before
-SourceCount (Ok TooLong) before now = now ≡ before
-SourceCount (Err stop) before now = (now ≡ before) ⊎ Rose before now
+-- the ends that tell that the input can't be read
+abbrev pub is_unread : Shown → Bool
+is_unread ReadFault = true
+is_unread Done = false
+is_unread Refused = false
+is_unread TooLong = false
 
 -- the endings that tell what the input is
 abbrev pub IsVerdict : Shown → Type 0

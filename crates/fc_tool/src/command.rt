@@ -4,15 +4,13 @@ ghost use Rattle.fc_base.specs.Causes.{Rose};
 ghost use Rattle.fc_base.specs.Content.{IsFlushed};
 ghost use Rattle.fc_words.specs.Commands.{command_of};
 ghost use Rattle.fc_words.specs.declared.commands.Command.TheVariants as meant;
-ghost use Rattle.fc_tool.specs.declared.element.ElementEnd.{ElementEnd};
-ghost use Rattle.fc_tool.specs.declared.make.Made.{Made};
-ghost use Rattle.fc_tool.specs.declared.show.Shown.{Shown};
 ghost use Rattle.fc_tool.specs.declared.stops.Stop.{Stop};
-ghost use Rattle.fc_tool.specs.ElementRun.{ElementEnds, element_status};
+ghost use Rattle.fc_tool.specs.ElementRun.{element_status};
 ghost use Rattle.fc_tool.specs.Limits.{most_bytes};
-ghost use Rattle.fc_tool.specs.Make.{MakeEnds, make_status};
+ghost use Rattle.fc_tool.specs.Make.{make_status};
 ghost use Rattle.fc_tool.specs.Run.{UsageEnds, usage_status};
-ghost use Rattle.fc_tool.specs.Show.{ShowEnds, status_of};
+ghost use Rattle.fc_tool.specs.Runs.{ElementRuns, MakeRuns, ShowRuns};
+ghost use Rattle.fc_tool.specs.Show.{status_of};
 ghost use Rattle.fc_tool.specs.Stops.{FlushedAt, SinkCount};
 
 use crate::element::{ElementEnd, element};
@@ -42,19 +40,17 @@ pub fn run<S: Source, K: Sink, H: Hub>(
         → (how : Result (Unit {0}) Stop) × (result ≡ usage_status how) × UsageEnds how (K.written out.old) (K.written out.new) }
     ensures unread { command_of (map string_bytes words.now) ≡ None → input.new ≡ input.old }
 
-    // What was read, what was written of it, and the status, for `show`.
-    ensures show { command_of (map string_bytes words.now) ≡ Some meant.Show → (how : Result Shown Stop) × (result ≡ status_of how)
-        × ShowEnds most_bytes how (S.left input.old) (S.left input.new) (K.written out.old) (K.written out.new) }
-
-    // The same for `make`.
-    ensures make { command_of (map string_bytes words.now) ≡ Some meant.Make → (how : Result Made Stop) × (result ≡ make_status how)
-        × MakeEnds most_bytes how (S.left input.old) (S.left input.new) (K.written out.old) (K.written out.new) }
-
-    // What was read, done on the hub and written, and the status, for `element`.
+    // What each command reads and writes and with which status, and by what alone that is decided where nothing fails.
+    ensures show { command_of (map string_bytes words.now) ≡ Some meant.Show
+        → ShowRuns most_bytes result (S.left input.old) (S.left input.new) (K.written out.old) (K.written out.new)
+        (Rose (S.faults input.old) (S.faults input.new)) (Rose (K.faults out.old) (K.faults out.new)) }
+    ensures make { command_of (map string_bytes words.now) ≡ Some meant.Make
+        → MakeRuns most_bytes result (S.left input.old) (S.left input.new) (K.written out.old) (K.written out.new)
+        (Rose (S.faults input.old) (S.faults input.new)) (Rose (K.faults out.old) (K.faults out.new)) }
     ensures element { (fe ce : ℕ) (address : List ℕ) (connections turns : ℕ)
         → command_of (map string_bytes words.now) ≡ Some (meant.Element fe ce address connections turns)
-        → (how : Result ElementEnd Stop) × (result ≡ element_status how)
-        × ElementEnds most_bytes fe ce turns how (S.left input.old) (S.left input.new) (H.held hub.old) (H.held hub.new) (K.written out.old) (K.written out.new) }
+        → ElementRuns most_bytes fe ce turns result (S.left input.old) (S.left input.new) (H.held hub.old) (H.held hub.new) (K.written out.old) (K.written out.new)
+        (Rose (S.faults input.old) (S.faults input.new)) (Rose (K.faults out.old) (K.faults out.new)) (Rose (H.faults hub.old) (H.faults hub.new)) }
 
     // Only `element` uses the hub.
     ensures hub { ((fe ce : ℕ) (address : List ℕ) (connections turns : ℕ)
@@ -67,19 +63,6 @@ pub fn run<S: Source, K: Sink, H: Hub>(
     ensures source_steady { result ≢ READ_FAULT → result ≢ WRITE_FAULT → result ≢ NO_MEMORY → S.faults input.new ≡ S.faults input.old }
     ensures sink_steady { result ≢ WRITE_FAULT → K.faults out.new ≡ K.faults out.old }
     ensures hub_steady { result ≢ HUB_FAULT → result ≢ WRITE_FAULT → result ≢ NO_MEMORY → H.faults hub.new ≡ H.faults hub.old }
-
-    // Where no count rose, the input alone decides, or it ran out of memory; for `element`, the input and the events.
-    ensures complete { command_of (map string_bytes words.now) ≡ Some meant.Show
-        → (Rose (S.faults input.old) (S.faults input.new) → ⊥) → (Rose (K.faults out.old) (K.faults out.new) → ⊥)
-        → (result ≡ DONE) ⊎ ((result ≡ NO_MESSAGE) ⊎ ((result ≡ TOO_LONG) ⊎ (result ≡ NO_MEMORY))) }
-    ensures make_complete { command_of (map string_bytes words.now) ≡ Some meant.Make
-        → (Rose (S.faults input.old) (S.faults input.new) → ⊥) → (Rose (K.faults out.old) (K.faults out.new) → ⊥)
-        → (result ≡ DONE) ⊎ ((result ≡ REFUSED) ⊎ ((result ≡ TOO_LONG) ⊎ (result ≡ NO_MEMORY))) }
-    ensures element_complete { (fe ce : ℕ) (address : List ℕ) (connections turns : ℕ)
-        → command_of (map string_bytes words.now) ≡ Some (meant.Element fe ce address connections turns)
-        → (Rose (S.faults input.old) (S.faults input.new) → ⊥) → (Rose (K.faults out.old) (K.faults out.new) → ⊥)
-        → (Rose (H.faults hub.old) (H.faults hub.new) → ⊥)
-        → (result ≡ DONE) ⊎ ((result ≡ TURNS) ⊎ ((result ≡ REFUSED) ⊎ ((result ≡ TOO_LONG) ⊎ (result ≡ NO_MEMORY)))) }
 
     // All that was written is flushed, or where the writing stopped so much as was before.
     ensures flushed { result ≢ WRITE_FAULT → result ≢ NO_MEMORY → IsFlushed (K.written out.new) (K.flushed out.new) }

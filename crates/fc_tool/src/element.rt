@@ -5,7 +5,8 @@ ghost use Rattle.fc_base.specs.Content.{AppendsFront};
 ghost use Rattle.fc_element.specs.ElementMachine.{report_of};
 ghost use Rattle.fc_library.specs.Refusals.{refusal_text};
 ghost use Rattle.fc_library.specs.declared.fault.LibFault.TheVariants as faults;
-ghost use Rattle.fc_tool.specs.ElementRun.{DocumentEnds, ElementEnds, ElementHub, ElementSource, RunEnds};
+ghost use Rattle.fc_tool.specs.ElementRun.{DocumentEnds, ElementEnds, RunEnds, is_unread, is_unserved};
+ghost use Rattle.fc_tool.specs.Endings.{EndCount};
 ghost use Rattle.fc_tool.specs.Limits.{most_bytes};
 ghost use Rattle.fc_tool.specs.Stops.{FlushedAt, SinkCount};
 
@@ -50,8 +51,8 @@ pub fn element<S: Source, K: Sink, H: Hub>(
 ) -> Result<ElementEnd, Stop>
     ensures ends { ElementEnds most_bytes fe ce turns result (S.left input.old) (S.left input.new) (H.held hub.old) (H.held hub.new) (K.written out.old) (K.written out.new) }
     ensures flushed { FlushedAt result (K.written out.new) (K.flushed out.old) (K.flushed out.new) }
-    ensures source { ElementSource result (S.faults input.old) (S.faults input.new) }
-    ensures hub { ElementHub result (H.faults hub.old) (H.faults hub.new) }
+    ensures source { EndCount is_unread result (S.faults input.old) (S.faults input.new) }
+    ensures hub { EndCount is_unserved result (H.faults hub.old) (H.faults hub.new) }
     ensures sink { SinkCount result (K.faults out.old) (K.faults out.new) }
 {
     let end = match element_ends(alloc, fe, ce, turns, input, out, hub) {
@@ -76,8 +77,8 @@ fn element_ends<S: Source, K: Sink, H: Hub>(
 ) -> Result<ElementEnd, Stop>
     ensures ends { ElementEnds most_bytes fe ce turns result (S.left input.old) (S.left input.new) (H.held hub.old) (H.held hub.new) (K.written out.old) (K.written out.new) }
     ensures unflushed { K.flushed out.new ≡ K.flushed out.old }
-    ensures source { ElementSource result (S.faults input.old) (S.faults input.new) }
-    ensures hub { ElementHub result (H.faults hub.old) (H.faults hub.new) }
+    ensures source { EndCount is_unread result (S.faults input.old) (S.faults input.new) }
+    ensures hub { EndCount is_unserved result (H.faults hub.old) (H.faults hub.new) }
     ensures sink { SinkCount result (K.faults out.old) (K.faults out.new) }
 {
     let mut held = Splitter::new(alloc);
@@ -101,7 +102,7 @@ fn declared_element<K: Sink, H: Hub>(
 ) -> Result<ElementEnd, Stop>
     ensures ends { DocumentEnds fe ce turns document.now result (H.held hub.old) (H.held hub.new) (K.written out.old) (K.written out.new) }
     ensures unflushed { K.flushed out.new ≡ K.flushed out.old }
-    ensures hub { ElementHub result (H.faults hub.old) (H.faults hub.new) }
+    ensures hub { EndCount is_unserved result (H.faults hub.old) (H.faults hub.new) }
     ensures sink { SinkCount result (K.faults out.old) (K.faults out.new) }
 {
     match library_from_slice(alloc, document) {
@@ -139,7 +140,7 @@ fn run_element<K: Sink, H: Hub>(
 ) -> Result<ElementEnd, Stop>
     ensures ends { RunEnds fe ce turns result (H.held hub.old) (H.held hub.new) (K.written out.old) (K.written out.new) }
     ensures unflushed { K.flushed out.new ≡ K.flushed out.old }
-    ensures hub { ElementHub result (H.faults hub.old) (H.faults hub.new) }
+    ensures hub { EndCount is_unserved result (H.faults hub.old) (H.faults hub.new) }
     ensures sink { SinkCount result (K.faults out.old) (K.faults out.new) }
 {
     let Ok(mut node) = Node::new(alloc, fe, ce) else {

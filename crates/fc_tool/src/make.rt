@@ -3,8 +3,9 @@ ghost use Rattle.std.specs.Prelude.{◌≡◌, OnOk, OnErr, IfOk, string_bytes};
 ghost use Rattle.std.specs.Io.KnownBytes.{Appends};
 ghost use Rattle.fc_base.specs.Content.{AppendsFront};
 ghost use Rattle.fc_text.specs.TextPlaces.{place};
+ghost use Rattle.fc_tool.specs.Endings.{EndCount};
 ghost use Rattle.fc_tool.specs.Limits.{most_bytes};
-ghost use Rattle.fc_tool.specs.Make.{MakeEnds, MakeSource, TextEnds, text_refusal};
+ghost use Rattle.fc_tool.specs.Make.{MakeEnds, TextEnds, is_unread, text_refusal};
 ghost use Rattle.fc_tool.specs.Stops.{FlushedAt, SinkCount};
 
 use crate::input::{Look, look_over};
@@ -31,7 +32,7 @@ pub enum Made {
 pub fn make<S: Source, K: Sink>(alloc: Global, input: &mut S, out: &mut K) -> Result<Made, Stop>
     ensures ends { MakeEnds most_bytes result (S.left input.old) (S.left input.new) (K.written out.old) (K.written out.new) }
     ensures flushed { FlushedAt result (K.written out.new) (K.flushed out.old) (K.flushed out.new) }
-    ensures source { MakeSource result (S.faults input.old) (S.faults input.new) }
+    ensures source { EndCount is_unread result (S.faults input.old) (S.faults input.new) }
     ensures sink { SinkCount result (K.faults out.old) (K.faults out.new) }
 {
     let made = match make_all(alloc, input, out) {
@@ -48,7 +49,7 @@ pub fn make<S: Source, K: Sink>(alloc: Global, input: &mut S, out: &mut K) -> Re
 fn make_all<S: Source, K: Sink>(alloc: Global, input: &mut S, out: &mut K) -> Result<Made, Stop>
     ensures ends { MakeEnds most_bytes result (S.left input.old) (S.left input.new) (K.written out.old) (K.written out.new) }
     ensures unflushed { K.flushed out.new ≡ K.flushed out.old }
-    ensures source { MakeSource result (S.faults input.old) (S.faults input.new) }
+    ensures source { EndCount is_unread result (S.faults input.old) (S.faults input.new) }
     ensures sink { SinkCount result (K.faults out.old) (K.faults out.new) }
 {
     let mut held = Splitter::new(alloc);

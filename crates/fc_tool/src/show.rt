@@ -1,8 +1,9 @@
 // Reads frames and writes the text of each.
 ghost use Rattle.std.specs.Prelude.{◌≡◌, ◌≢◌, ◌≤◌, ◌<◌, ◌^◌, ◌++◌, ◌+◌, ◌-◌, is_ok, if◌then◌else◌, None, length, IfOk};
 ghost use Rattle.fc_wire.specs.Frames.{IsPartial};
+ghost use Rattle.fc_tool.specs.Endings.{EndCount};
 ghost use Rattle.fc_tool.specs.Limits.{most_bytes};
-ghost use Rattle.fc_tool.specs.Show.{PieceEnds, RestEnds, ShowEnds, SourceCount};
+ghost use Rattle.fc_tool.specs.Show.{PieceEnds, RestEnds, ShowEnds, is_unread};
 ghost use Rattle.fc_tool.specs.Stops.{FlushedAt, SinkCount};
 
 use crate::frames::push_frames;
@@ -30,7 +31,7 @@ pub enum Shown {
 pub fn show<S: Source, K: Sink>(alloc: Global, input: &mut S, out: &mut K) -> Result<Shown, Stop>
     ensures ends { ShowEnds most_bytes result (S.left input.old) (S.left input.new) (K.written out.old) (K.written out.new) }
     ensures flushed { FlushedAt result (K.written out.new) (K.flushed out.old) (K.flushed out.new) }
-    ensures source { SourceCount result (S.faults input.old) (S.faults input.new) }
+    ensures source { EndCount is_unread result (S.faults input.old) (S.faults input.new) }
     ensures sink { SinkCount result (K.faults out.old) (K.faults out.new) }
 {
     let shown = match show_all(alloc, input, out) {
@@ -47,7 +48,7 @@ pub fn show<S: Source, K: Sink>(alloc: Global, input: &mut S, out: &mut K) -> Re
 fn show_all<S: Source, K: Sink>(alloc: Global, input: &mut S, out: &mut K) -> Result<Shown, Stop>
     ensures ends { ShowEnds most_bytes result (S.left input.old) (S.left input.new) (K.written out.old) (K.written out.new) }
     ensures unflushed { K.flushed out.new ≡ K.flushed out.old }
-    ensures source { SourceCount result (S.faults input.old) (S.faults input.new) }
+    ensures source { EndCount is_unread result (S.faults input.old) (S.faults input.new) }
     ensures sink { SinkCount result (K.faults out.old) (K.faults out.new) }
 {
     let mut splitter = Splitter::new(alloc);

@@ -1,5 +1,10 @@
-use Rattle.fc_tool.proofs.Ending.{unread_ends}
+use Rattle.fc_tool.proofs.Ending.{document_ends, unread_ends}
 use Rattle.fc_tool.proofs.element.element_ends.Goals as goal
+
+pub returns-in-Ok-Whole-clause-ends : goal.returns-in-Ok-Whole-clause-ends
+returns-in-Ok-Whole-clause-ends g c =
+    document_ends c.declared_element.result 67108864 c.args.fe c.args.ce c.args.turns c.look_over.new.held _ _ _ _ _ _
+    (rw c.in-Ok-Whole.field-0-is at c.in-Ok-Whole.ensures.ends) (rw c.rest.ensures at c.declared_element.ensures.ends)
 
 pub returns-in-Ok-ReadFault-clause-ends : goal.returns-in-Ok-ReadFault-clause-ends
 returns-in-Ok-ReadFault-clause-ends g c =
