@@ -2,32 +2,16 @@
 
 Use: python3 examples/controller.py HOST PORT
 
-It needs Python's standard library alone. The element that it talks to is started as
+It needs Python's standard library and forces.py beside it. The element that it talks to is started as
 `crates/forces/out/forces element 2 40000001 HOST:PORT 1 100 < /dev/null`.
 """
 import socket
-import struct
 import sys
 import time
 
+import forces
+
 CONTROL = 0x40000001
-SETUP, SETUP_RESPONSE, HEARTBEAT = 0x01, 0x11, 0x0F
-ALWAYS_ACK = 0xC0000000
-
-
-def message(kind, dest, flags, body=b""):
-    """The bytes of a message: the header of 24 bytes (RFC 5810, section 6.1), and the TLVs behind it."""
-    words = (24 + len(body)) // 4
-    return struct.pack(">BBHIIQI", 0x10, kind, words, CONTROL, dest, 0, flags) + body
-
-
-def receive(connection):
-    """One message: the words in its header say how long it is."""
-    header = connection.recv(24, socket.MSG_WAITALL)
-    if len(header) < 24:
-        sys.exit("the element hung up")
-    words = struct.unpack(">H", header[2:4])[0]
-    return header + connection.recv(4 * words - 24, socket.MSG_WAITALL)
 
 
 def connect(host, port):
@@ -40,17 +24,22 @@ def connect(host, port):
     sys.exit("connection refused")
 
 
-def main():
-    host, port = sys.argv[1], int(sys.argv[2])
-    with connect(host, port) as connection:
-        setup = receive(connection)
-        element = struct.unpack(">I", setup[4:8])[0]
-        print("from the element:", setup.hex(" ", 4).upper())
+def received(connection):
+    """The next message, whose bytes are printed."""
+    message = forces.receive(connection)
+    if message is None:
+        sys.exit("the element hung up")
+    print("from the element:", message.encode().hex(" ", 4).upper())
+    return message
 
-        accepted = struct.pack(">HHI", 0x0010, 8, 0)
-        connection.sendall(message(SETUP_RESPONSE, element, 0, accepted))
-        connection.sendall(message(HEARTBEAT, element, ALWAYS_ACK))
-        print("from the element:", receive(connection).hex(" ", 4).upper())
+
+def main():
+    with connect(sys.argv[1], int(sys.argv[2])) as connection:
+        element = received(connection).sender
+        accepted = forces.Message("AssociationSetupResponse", CONTROL, element, number=0)
+        asked = forces.Message("Heartbeat", CONTROL, element, flags=forces.ALWAYS_ACK)
+        connection.sendall(accepted.encode() + asked.encode())
+        received(connection)
 
 
 if __name__ == "__main__":

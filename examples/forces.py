@@ -1,0 +1,915 @@
+#!/usr/bin/env python3
+"""The messages of `forces` and the values of its libraries, in Python's standard library alone.
+
+As a filter, from standard input to standard output:
+
+    python3 forces.py json < messages      each message as one JSON object, one a line
+    python3 forces.py bytes < lines        the bytes of such lines
+    python3 forces.py text < messages      what `forces show` writes of the messages
+
+Bytes that are no message end `json` and `text` with status 6, and their last line tells why; lines that are no message end `bytes` with
+status 5 and nothing written.
+
+As a module, a query and what comes back:
+
+    query = forces.Message("Query", 0x40000001, 2, correlator=7)
+    query.selects = [forces.Select(1, 1, [forces.Operation("GET", [forces.Path([7])])])]
+    connection.sendall(query.encode())
+    answer = forces.receive(connection)
+
+and a value of a library, which is read from its TOML document (this needs Python 3.11):
+
+    library = forces.Library(open("port.toml", encoding="utf-8").read())
+    ports = library.type_at(0x1001, [4])
+    ports.write({1: {1: "eth0", 2: 100, 3: True}})
+
+docs/FORMATS.md tells the formats, and this file was written by it.
+"""
+from __future__ import annotations
+
+import json
+import socket
+import struct
+import sys
+from dataclasses import dataclass, field
+from enum import IntEnum
+
+TYPES = {
+    "AssociationSetup": 0x01, "AssociationTeardown": 0x02, "Config": 0x03, "Query": 0x04, "EventNotification": 0x05,
+    "Heartbeat": 0x0F, "AssociationSetupResponse": 0x11, "ConfigResponse": 0x13, "QueryResponse": 0x14,
+}
+OPERATIONS = {
+    "SET": 1, "SET-PROP": 2, "SET-RESPONSE": 3, "SET-PROP-RESPONSE": 4, "DEL": 5, "DEL-RESPONSE": 6, "GET": 7, "GET-PROP": 8,
+    "GET-RESPONSE": 9, "GET-PROP-RESPONSE": 10, "REPORT": 11, "COMMIT": 12, "COMMIT-RESPONSE": 13, "TRCOMP": 14,
+}
+TYPE_NAMES = {number: name for name, number in TYPES.items()}
+OPERATION_NAMES = {number: name for name, number in OPERATIONS.items()}
+# the word for the number of a message that has one, and the type of the TLV in which it stands
+NUMBERED = {"AssociationTeardown": ("reason", 0x0011), "AssociationSetupResponse": ("result", 0x0010)}
+# the operations of each message that has selects
+STANDS_IN = {
+    "AssociationSetup": {"REPORT"},
+    "Config": {"SET", "SET-PROP", "DEL", "COMMIT", "TRCOMP"},
+    "Query": {"GET", "GET-PROP"},
+    "EventNotification": {"REPORT"},
+    "ConfigResponse": {"SET-RESPONSE", "SET-PROP-RESPONSE", "DEL-RESPONSE", "COMMIT-RESPONSE"},
+    "QueryResponse": {"GET-RESPONSE", "GET-PROP-RESPONSE"},
+}
+REDIRECT = 0x06
+SELECT, PATH_DATA, KEYINFO, FULLDATA, SPARSEDATA, RESULT = 0x1000, 0x0110, 0x0111, 0x0112, 0x0113, 0x0114
+KNOWN = {0x0001, 0x0010, 0x0011, SELECT, *range(0x0110, 0x0117)}
+# what the PATH-DATA of each operation may hold beside others, where None is nothing; the other operations have no PATH-DATA
+LEAVES = {
+    "SET": {FULLDATA, SPARSEDATA}, "SET-PROP": {SPARSEDATA}, "SET-RESPONSE": {RESULT}, "SET-PROP-RESPONSE": {RESULT},
+    "DEL": {None}, "DEL-RESPONSE": {RESULT}, "GET": {None}, "GET-PROP": {None}, "GET-RESPONSE": {FULLDATA, SPARSEDATA, RESULT},
+    "GET-PROP-RESPONSE": {FULLDATA, SPARSEDATA, RESULT}, "REPORT": {FULLDATA},
+}
+HEADER = 24
+DEEPEST = 16
+ALL_CONTROL_ELEMENTS = 0xFFFFFFFD
+
+ALWAYS_ACK = 0xC0000000
+USED_FLAGS = 0xF8F80000
+KEYED = 0x8000
+
+
+class Code(IntEnum):
+    """The result codes (RFC 5810, section 7.1.7)."""
+
+    SUCCESS = 0x00
+    INVALID_DESTINATION_PID = 0x04
+    LFB_UNKNOWN = 0x05
+    LFB_INSTANCE_ID_NOT_FOUND = 0x07
+    INVALID_PATH = 0x08
+    COMPONENT_DOES_NOT_EXIST = 0x09
+    EXISTS = 0x0A
+    NOT_FOUND = 0x0B
+    READ_ONLY = 0x0C
+    INVALID_ARRAY_CREATION = 0x0D
+    VALUE_OUT_OF_RANGE = 0x0E
+    CONTENTS_TOO_LONG = 0x0F
+    INVALID_PARAMETERS = 0x10
+    INVALID_FLAGS = 0x12
+    INVALID_TLV = 0x13
+    EVENT_ERROR = 0x14
+    NOT_SUPPORTED = 0x15
+    UNSPECIFIED_ERROR = 0xFF
+
+
+class Refused(Exception):
+    """Bytes are no message: the first rule that they break, and the offset at which."""
+
+    def __init__(self, place, reason):
+        super().__init__(place, reason)
+        self.place, self.reason = place, reason
+
+    def __str__(self):
+        return f"refused {self.place} {self.reason}"
+
+
+class NoValue(Exception):
+    """Bytes are no value of a type, or a value is none that the type has: the result code of the first failure."""
+
+    def __init__(self, code):
+        super().__init__(code)
+        self.code = code
+
+    def __str__(self):
+        return self.code.name
+
+
+# Messages
+
+
+@dataclass
+class Path:
+    """A PATH-DATA: the IDs, a key with its number and its value, and at most one of a whole value, parts, a result and other paths."""
+
+    ids: list[int]
+    key: tuple[int, bytes] | None = None
+    full: bytes | None = None
+    sparse: list[tuple[int, bytes]] | None = None
+    code: int | None = None
+    paths: list[Path] = field(default_factory=list)
+
+    def encode(self):
+        key = b""
+        if self.key is not None:
+            key = tlv(KEYINFO, struct.pack(">I", self.key[0]) + tlv(FULLDATA, self.key[1]))
+        body = b"".join(path.encode() for path in self.paths)
+        if self.full is not None:
+            body += tlv(FULLDATA, self.full)
+        if self.sparse is not None:
+            body += tlv(SPARSEDATA, b"".join(ilv(*part) for part in self.sparse))
+        if self.code is not None:
+            body += result(self.code)
+        flags = KEYED if key else 0
+        return tlv(PATH_DATA, struct.pack(f">HH{len(self.ids)}I", flags, len(self.ids), *self.ids) + key + body)
+
+
+@dataclass
+class Operation:
+    """An operation by its name, with its paths; a COMMIT-RESPONSE has a result code in their place."""
+
+    name: str
+    paths: list[Path] = field(default_factory=list)
+    code: int | None = None
+
+    def encode(self):
+        body = b"".join(path.encode() for path in self.paths)
+        if self.code is not None:
+            body += result(self.code)
+        return tlv(OPERATIONS[self.name], body)
+
+
+@dataclass
+class Select:
+    """An LFB select: the class and the instance, and what is done there."""
+
+    lfb_class: int
+    instance: int
+    operations: list[Operation]
+
+    def encode(self):
+        return tlv(SELECT, struct.pack(">II", self.lfb_class, self.instance) + b"".join(each.encode() for each in self.operations))
+
+
+@dataclass
+class Message:
+    """A message by the name of its type. `number` is the result of an AssociationSetupResponse and the reason of an
+    AssociationTeardown; the other messages but a Heartbeat have selects."""
+
+    name: str
+    sender: int
+    addressee: int
+    correlator: int = 0
+    flags: int = 0
+    number: int | None = None
+    selects: list[Select] = field(default_factory=list)
+
+    def encode(self):
+        """The canonical bytes. What may not stand in such a message raises Refused, and what is too long for its field ValueError."""
+        body = b"".join(select.encode() for select in self.selects)
+        if self.number is not None and self.name in NUMBERED:
+            body += tlv(NUMBERED[self.name][1], struct.pack(">I", self.number))
+        words = (HEADER + len(body)) // 4
+        if words > 0xFFFF:
+            raise ValueError("a message has at most 65,535 words")
+        ends = self.sender, self.addressee, self.correlator, self.flags & USED_FLAGS
+        data = struct.pack(">BBHIIQI", 0x10, TYPES[self.name], words, *ends) + body
+        Reader(data).message()
+        return data
+
+
+def tlv(kind, value):
+    """A TLV with its padding."""
+    if len(value) > 0xFFFF - 4:
+        raise ValueError("a TLV has at most 65,535 bytes")
+    return struct.pack(">HH", kind, 4 + len(value)) + value + bytes(-len(value) % 4)
+
+
+def ilv(ident, value):
+    """An ILV with its padding."""
+    return struct.pack(">II", ident, 8 + len(value)) + value + bytes(-len(value) % 4)
+
+
+def result(code):
+    """A RESULT."""
+    return tlv(RESULT, bytes([code, 0, 0, 0]))
+
+
+def rounded(length):
+    return (length + 3) // 4 * 4
+
+
+@dataclass
+class Item:
+    """A TLV or an ILV in a message: where it begins, where its value does, and where that ends without and with its padding."""
+
+    kind: int
+    place: int
+    value: int
+    end: int
+    padded: int
+
+
+class Reader:
+    """Reads the one message that bytes spell. Every test stands where docs/FORMATS.md has it, so that the first that fails is told."""
+
+    def __init__(self, data):
+        self.data = data
+
+    def number(self, place, size=4):
+        return int.from_bytes(self.data[place : place + size], "big")
+
+    def items(self, place, end, head=4):
+        """The TLVs from a place to an end, each only once it is asked for; or the ILVs, whose heads have 8 bytes."""
+        while place < end:
+            length = self.number(place + head // 2, head // 2) if end - place >= head else 0
+            if length < head:
+                raise Refused(place, "tlv-short")
+            if length > end - place:
+                raise Refused(place, "tlv-past")
+            yield Item(self.number(place, head // 2), place, place + head, place + length, place + rounded(length))
+            place += rounded(length)
+
+    def misplaced(self, item, reason="wrong-body", known=KNOWN):
+        raise Refused(item.place, reason if item.kind in known else "unknown-tlv")
+
+    def only(self, items, kind, end):
+        """The first TLV, which has to be of this type."""
+        for item in items:
+            if item.kind != kind:
+                self.misplaced(item)
+            return item
+        raise Refused(end, "wrong-body")
+
+    def no_more(self, items, reason):
+        for item in items:
+            self.misplaced(item, reason)
+
+    def message(self):
+        """The message, or what is refused first."""
+        size = len(self.data)
+        if size < HEADER:
+            raise Refused(0, "truncated")
+        if self.data[0] >> 4 != 1:
+            raise Refused(0, "version")
+        told = 4 * self.number(2, 2)
+        if told < HEADER:
+            raise Refused(2, "short-length")
+        if size < told:
+            raise Refused(0, "truncated")
+        if size > told:
+            raise Refused(told, "trailing")
+        if self.data[1] == REDIRECT:
+            raise Refused(1, "not-built")
+        if self.data[1] not in TYPE_NAMES:
+            raise Refused(1, "unknown-type")
+        sender, addressee, correlator, flags = struct.unpack(">IIQI", self.data[4:HEADER])
+        message = Message(TYPE_NAMES[self.data[1]], sender, addressee, correlator, flags & USED_FLAGS)
+        self.body(message, size)
+        return message
+
+    def body(self, message, end):
+        items = self.items(HEADER, end)
+        if message.name in NUMBERED:
+            item = self.only(items, NUMBERED[message.name][1], end)
+            if item.end - item.value != 4:
+                raise Refused(item.place, "wrong-body")
+            message.number = self.number(item.value)
+        elif message.name in STANDS_IN:
+            message.selects = [self.select(message.name, item) for item in items]
+            if not message.selects and message.name != "AssociationSetup":
+                raise Refused(end, "wrong-body")
+        self.no_more(items, "trailing")
+
+    def select(self, message, item):
+        if item.kind != SELECT:
+            self.misplaced(item)
+        if item.end - item.value < 8:
+            raise Refused(item.place, "tlv-short")
+        select = Select(self.number(item.value), self.number(item.value + 4), [])
+        select.operations = [self.operation(message, inner) for inner in self.items(item.value + 8, item.padded)]
+        if not select.operations:
+            raise Refused(item.padded, "wrong-body")
+        return select
+
+    def operation(self, message, item):
+        name = OPERATION_NAMES.get(item.kind)
+        if name not in STANDS_IN[message]:
+            self.misplaced(item, known=KNOWN | set(OPERATION_NAMES))
+        operation = Operation(name)
+        if name in ("COMMIT", "TRCOMP"):
+            if item.end != item.value:
+                raise Refused(item.place, "wrong-body")
+            return operation
+        items = self.items(item.value, item.padded)
+        if name == "COMMIT-RESPONSE":
+            operation.code = self.result(self.only(items, RESULT, item.padded))
+            self.no_more(items, "trailing")
+            return operation
+        operation.paths = list(self.paths(name, 1, items, "wrong-body"))
+        if not operation.paths:
+            raise Refused(item.padded, "wrong-body")
+        return operation
+
+    def paths(self, operation, depth, items, reason):
+        for item in items:
+            if item.kind != PATH_DATA:
+                self.misplaced(item, reason)
+            yield self.path(operation, depth, item)
+
+    def path(self, operation, depth, item):
+        if depth > DEEPEST:
+            raise Refused(item.place, "deep")
+        room = item.padded - item.value
+        count = self.number(item.value + 2, 2) if room >= 4 else 0
+        if room < 4 + 4 * count:
+            raise Refused(item.place, "count-past")
+        body = item.value + 4 + 4 * count
+        path = Path([self.number(at) for at in range(item.value + 4, body, 4)])
+        keyed = self.number(item.value, 2) & KEYED != 0
+        first = next(self.items(body, item.padded), None)
+        if first is not None and first.kind not in KNOWN:
+            raise Refused(first.place, "unknown-tlv")
+        if keyed != (first is not None and first.kind == KEYINFO):
+            raise Refused(item.place + 4, "key-flag")
+        if keyed:
+            path.key = self.key(first)
+            body = first.padded
+        self.leaf_or_paths(operation, depth, path, body, item.padded)
+        return path
+
+    def key(self, item):
+        if item.end - item.value < 4:
+            raise Refused(item.place, "tlv-short")
+        items = self.items(item.value + 4, item.padded)
+        value = self.only(items, FULLDATA, item.padded)
+        self.no_more(items, "trailing")
+        return self.number(item.value), self.data[value.value : value.end]
+
+    def leaf_or_paths(self, operation, depth, path, place, end):
+        items = self.items(place, end)
+        item = next(items, None)
+        if item is None:
+            if None not in LEAVES[operation]:
+                raise Refused(end, "wrong-body")
+        elif item.kind == PATH_DATA:
+            path.paths = [self.path(operation, depth + 1, item), *self.paths(operation, depth + 1, items, "two-bodies")]
+        else:
+            self.leaf(operation, path, item)
+            self.no_more(items, "two-bodies")
+
+    def leaf(self, operation, path, item):
+        if item.kind not in LEAVES[operation]:
+            self.misplaced(item)
+        if item.kind == FULLDATA:
+            path.full = self.data[item.value : item.end]
+        elif item.kind == RESULT:
+            path.code = self.result(item)
+        else:
+            parts = self.items(item.value, item.padded, 8)
+            path.sparse = [(part.kind, self.data[part.value : part.end]) for part in parts]
+
+    def result(self, item):
+        if item.end - item.value != 4:
+            raise Refused(item.place, "wrong-body")
+        return self.data[item.value]
+
+
+def decode(data):
+    """The message that the bytes spell; Refused where they spell none."""
+    return Reader(data).message()
+
+
+def frames(data):
+    """The bytes of each message in a stream, with the offset at which they begin."""
+    place = 0
+    while place < len(data):
+        size = max(HEADER, 4 * int.from_bytes(data[place + 2 : place + 4], "big"))
+        yield place, data[place : place + size]
+        place += size
+
+
+def messages(data):
+    """The messages of a stream, up to what is none: then Refused, with its offset in the stream."""
+    for place, frame in frames(data):
+        try:
+            message = decode(frame)
+        except Refused as refused:
+            raise Refused(place + refused.place, refused.reason) from None
+        yield message
+
+
+def receive(connection):
+    """The next message from a socket, and None where the peer has hung up before a whole one."""
+    header = connection.recv(HEADER, socket.MSG_WAITALL)
+    if len(header) < HEADER:
+        return None
+    rest = max(0, 4 * int.from_bytes(header[2:4], "big") - HEADER)
+    body = connection.recv(rest, socket.MSG_WAITALL)
+    return decode(header + body) if len(body) == rest else None
+
+
+# Text, as `forces show` writes it
+
+
+def text(message):
+    """The lines of a message."""
+    ends = f"from={message.sender:08X} to={message.addressee:08X} corr={message.correlator:016X}"
+    lines = [f"{message.name} {ends} flags={message.flags & USED_FLAGS:08X}"]
+    if message.name in NUMBERED:
+        lines.append(f"  {NUMBERED[message.name][0]} {message.number}")
+    for select in message.selects:
+        lines.append(f"  lfb {select.lfb_class:08X} {select.instance:08X}")
+        for operation in select.operations:
+            lines.append(f"    {operation.name}")
+            if operation.code is not None:
+                lines.append(f"      code {operation.code:02X}")
+            for path in operation.paths:
+                lines += path_lines(path, "      ")
+    return "".join(line + "\n" for line in lines)
+
+
+def path_lines(path, indent):
+    words = ["path", *map(str, path.ids)]
+    if path.key is not None:
+        words += ["key", str(path.key[0]), digits(path.key[1])]
+    yield indent + " ".join(words)
+    indent += "  "
+    if path.full is not None:
+        yield f"{indent}full {digits(path.full)}"
+    if path.sparse is not None:
+        yield f"{indent}sparse"
+        for ident, value in path.sparse:
+            yield f"{indent}  ilv {ident} {digits(value)}"
+    if path.code is not None:
+        yield f"{indent}code {path.code:02X}"
+    for inner in path.paths:
+        yield from path_lines(inner, indent)
+
+
+def digits(data):
+    return data.hex().upper() or "-"
+
+
+# JSON: identifiers, correlators, flags, codes and values as hexadecimal digits, and all else as numbers; what is not there is left out
+
+
+def to_json(message):
+    """A message as what `json.dumps` takes."""
+    made = {
+        "type": message.name,
+        "from": f"{message.sender:08X}",
+        "to": f"{message.addressee:08X}",
+        "correlator": f"{message.correlator:016X}",
+        "flags": f"{message.flags & USED_FLAGS:08X}",
+    }
+    if message.name in NUMBERED:
+        made[NUMBERED[message.name][0]] = message.number
+    elif message.name in STANDS_IN:
+        made["selects"] = [
+            {
+                "class": f"{select.lfb_class:08X}",
+                "instance": f"{select.instance:08X}",
+                "operations": [operation_to_json(operation) for operation in select.operations],
+            }
+            for select in message.selects
+        ]
+    return made
+
+
+def operation_to_json(operation):
+    made = {"operation": operation.name}
+    if operation.code is not None:
+        made["code"] = f"{operation.code:02X}"
+    if operation.paths:
+        made["paths"] = [path_to_json(path) for path in operation.paths]
+    return made
+
+
+def path_to_json(path):
+    made = {"ids": path.ids}
+    if path.key is not None:
+        made["key"] = {"id": path.key[0], "value": path.key[1].hex().upper()}
+    if path.full is not None:
+        made["full"] = path.full.hex().upper()
+    if path.sparse is not None:
+        made["sparse"] = [{"id": ident, "value": value.hex().upper()} for ident, value in path.sparse]
+    if path.code is not None:
+        made["code"] = f"{path.code:02X}"
+    if path.paths:
+        made["paths"] = [path_to_json(inner) for inner in path.paths]
+    return made
+
+
+def known_keys(made, *keys):
+    """What stands at each of the keys, and None where nothing does. Other keys raise ValueError."""
+    for key in made:
+        if key not in keys:
+            raise ValueError(f"the key {key!r} stands nowhere here")
+    return [made.get(key) for key in keys]
+
+
+def from_json(made):
+    """The message that such an object tells."""
+    name, sender, addressee, correlator, flags, reason, number, selects = known_keys(
+        made, "type", "from", "to", "correlator", "flags", "reason", "result", "selects"
+    )
+    ends = [int(word, 16) for word in (sender, addressee, correlator or "0", flags or "0")]
+    if name not in TYPES:
+        raise ValueError(f"no type of message is called {name!r}")
+    if number is None:
+        number = reason
+    return Message(name, *ends, number, [select_from_json(select) for select in selects or []])
+
+
+def select_from_json(made):
+    lfb_class, instance, operations = known_keys(made, "class", "instance", "operations")
+    return Select(int(lfb_class, 16), int(instance, 16), [operation_from_json(operation) for operation in operations])
+
+
+def operation_from_json(made):
+    name, code, paths = known_keys(made, "operation", "code", "paths")
+    if name not in OPERATIONS:
+        raise ValueError(f"no operation is called {name!r}")
+    return Operation(name, [path_from_json(path) for path in paths or []], code and int(code, 16))
+
+
+def path_from_json(made):
+    ids, key, full, sparse, code, paths = known_keys(made, "ids", "key", "full", "sparse", "code", "paths")
+    path = Path(ids, paths=[path_from_json(inner) for inner in paths or []])
+    if key is not None:
+        path.key = part_from_json(key)
+    if full is not None:
+        path.full = bytes.fromhex(full)
+    if sparse is not None:
+        path.sparse = [part_from_json(part) for part in sparse]
+    if code is not None:
+        path.code = int(code, 16)
+    return path
+
+
+def part_from_json(made):
+    ident, value = known_keys(made, "id", "value")
+    return ident, bytes.fromhex(value)
+
+
+# Values of declared types (RFC 5812, section 4.5). In Python they are bool, int, str for a text, bytes for octets and bytes, a dict by
+# the IDs of the fields for a struct, and a dict by subscripts for an array.
+
+
+class Cursor:
+    """Bytes that are taken from left to right."""
+
+    def __init__(self, data):
+        self.data, self.place = data, 0
+
+    def left(self):
+        return len(self.data) - self.place
+
+    def take(self, count):
+        if count > self.left():
+            raise NoValue(Code.INVALID_TLV)
+        self.place += count
+        return self.data[self.place - count : self.place]
+
+    def number(self, count):
+        return int.from_bytes(self.take(count), "big")
+
+
+class Type:
+    """A declared type. `read` and `write` go between a value and its full form by itself, as a FULLDATA or an ILV has it."""
+
+    # whether a value stands in a FULLDATA of its own inside a struct or an entry
+    wrapped = False
+
+    def read(self, data):
+        """The value; NoValue with the code of the first failure where the bytes are none."""
+        cursor = Cursor(data)
+        value = self.take(cursor)
+        if cursor.left():
+            raise NoValue(Code.INVALID_TLV)
+        return value
+
+    def write(self, value):
+        """The canonical bytes of the value. One that the type does not have raises NoValue or ValueError."""
+        data = self.put(value)
+        if self.read(data) != value:
+            raise ValueError(f"{value!r} is no value of this type")
+        return data
+
+    def take_inside(self, cursor):
+        if not self.wrapped:
+            return self.take(cursor)
+        kind, length = cursor.number(2), cursor.number(2)
+        if kind != FULLDATA or length < 4:
+            raise NoValue(Code.INVALID_TLV)
+        value = self.take(Cursor(cursor.take(length - 4)))
+        cursor.take(-length % 4)
+        return value
+
+    def put_inside(self, value):
+        return tlv(FULLDATA, self.put(value)) if self.wrapped else self.put(value)
+
+    def part(self, ident):
+        """The type of the field or the entry at an identifier of the sparse form, and None where there is none."""
+        return None
+
+    def read_parts(self, parts):
+        """The values that the parts of a sparse form tell, each an identifier and bytes, by their identifiers."""
+        if not isinstance(self, (Struct, Array)):
+            raise NoValue(Code.INVALID_TLV)
+        values = {}
+        for ident, data in parts:
+            part = self.part(ident)
+            if part is None or ident in values:
+                raise NoValue(Code.INVALID_TLV)
+            values[ident] = part.read(data)
+        return values
+
+    def write_parts(self, values):
+        """The parts of a sparse form, as a Path has them."""
+        parts = [(ident, self.part(ident).write(value)) for ident, value in values.items()]
+        self.read_parts(parts)
+        return parts
+
+
+@dataclass
+class Bool(Type):
+    """One byte, 00 or 01."""
+
+    def take(self, cursor):
+        number = cursor.number(1)
+        if number > 1:
+            raise NoValue(Code.VALUE_OUT_OF_RANGE)
+        return number == 1
+
+    def put(self, value):
+        return bytes([value])
+
+
+@dataclass
+class Number(Type):
+    """So many bytes, the highest first, with or without a sign, in a range."""
+
+    size: int
+    signed: bool
+    least: int
+    greatest: int
+
+    def take(self, cursor):
+        number = int.from_bytes(cursor.take(self.size), "big", signed=self.signed)
+        if not self.least <= number <= self.greatest:
+            raise NoValue(Code.VALUE_OUT_OF_RANGE)
+        return number
+
+    def put(self, value):
+        return value.to_bytes(self.size, "big", signed=self.signed)
+
+
+@dataclass
+class Text(Type):
+    """A text in UTF-8 of at most so many bytes."""
+
+    length: int
+    wrapped = True
+
+    def take(self, cursor):
+        data = cursor.take(cursor.left())
+        try:
+            value = data.decode()
+        except UnicodeDecodeError:
+            raise NoValue(Code.INVALID_PARAMETERS) from None
+        if len(data) > self.length:
+            raise NoValue(Code.VALUE_OUT_OF_RANGE)
+        return value
+
+    def put(self, value):
+        return value.encode()
+
+
+@dataclass
+class Octets(Type):
+    """At most so many bytes."""
+
+    length: int
+    wrapped = True
+
+    def take(self, cursor):
+        data = cursor.take(cursor.left())
+        if len(data) > self.length:
+            raise NoValue(Code.VALUE_OUT_OF_RANGE)
+        return data
+
+    def put(self, value):
+        return value
+
+
+@dataclass
+class Bytes(Type):
+    """Exactly so many bytes."""
+
+    length: int
+
+    def take(self, cursor):
+        return cursor.take(self.length)
+
+    def put(self, value):
+        return value
+
+
+@dataclass
+class Struct(Type):
+    """The types of the fields by their IDs, in their order."""
+
+    fields: dict[int, Type]
+
+    def take(self, cursor):
+        return {ident: part.take_inside(cursor) for ident, part in self.fields.items()}
+
+    def put(self, value):
+        return b"".join(part.put_inside(value[ident]) for ident, part in self.fields.items())
+
+    def part(self, ident):
+        return self.fields.get(ident)
+
+
+@dataclass
+class Array(Type):
+    """The type of the entries, how many there may be, and the fields of each key by the ID of the key."""
+
+    entry: Type
+    entries: int
+    keys: dict[int, list[int]]
+    wrapped = True
+
+    def take(self, cursor):
+        value = {}
+        while cursor.left():
+            subscript = cursor.number(4)
+            if subscript in value:
+                raise NoValue(Code.INVALID_TLV)
+            if len(value) == self.entries:
+                raise NoValue(Code.VALUE_OUT_OF_RANGE)
+            value[subscript] = self.entry.take_inside(cursor)
+        for key in self.keys:
+            if len({self.key_value(key, entry) for entry in value.values()}) < len(value):
+                raise NoValue(Code.INVALID_PARAMETERS)
+        return dict(sorted(value.items()))
+
+    def put(self, value):
+        return b"".join(struct.pack(">I", subscript) + self.entry.put_inside(entry) for subscript, entry in sorted(value.items()))
+
+    def part(self, ident):
+        return self.entry
+
+    def key_value(self, key, entry):
+        """The value of a key in an entry, as a KEYINFO has it."""
+        fields = self.keys[key]
+        if len(fields) == 1:
+            return self.entry.fields[fields[0]].put(entry[fields[0]])
+        return b"".join(self.entry.fields[ident].put_inside(entry[ident]) for ident in fields)
+
+
+# Libraries as documents
+
+NUMBERS = {f"{sign}{8 * size}": (size, sign == "i") for size in (1, 2, 4, 8) for sign in "ui"}
+
+
+def declared(table):
+    """The type that a component, a field or an entry of a document has."""
+    name = table["type"]
+    if name == "bool":
+        return Bool()
+    if name in NUMBERS:
+        size, signed = NUMBERS[name]
+        least, greatest = (-(1 << 8 * size - 1), (1 << 8 * size - 1) - 1) if signed else (0, (1 << 8 * size) - 1)
+        return Number(size, signed, table.get("min", least), table.get("max", greatest))
+    if name in ("string", "octets", "bytes"):
+        return {"string": Text, "octets": Octets, "bytes": Bytes}[name](table["length"])
+    if name == "struct":
+        return Struct({each["id"]: declared(each) for each in table["fields"]})
+    if name == "array":
+        keys = {key["id"]: key["fields"] for key in table.get("keys", [])}
+        return Array(declared(table["entry"]), table["entries"], keys)
+    raise ValueError(f"no type is called {name!r}")
+
+
+@dataclass
+class Component:
+    """A component of a class: its name, its type, its access (1 to read, 2 to write, 3 both), and whether it may be absent."""
+
+    name: str
+    type: Type
+    access: int
+    optional: bool
+
+
+@dataclass
+class LfbClass:
+    """A class: its name, its components by their IDs, and the ID under which its events stand."""
+
+    name: str
+    components: dict[int, Component]
+    event_base: int
+
+
+class Library:
+    """The classes of a document by their IDs, and its instances as pairs of class and ID. It is not checked: a document that `forces element`
+    refuses may be read here, or raise KeyError or ValueError."""
+
+    def __init__(self, document):
+        import tomllib
+
+        tables = tomllib.loads(document)
+        self.classes = {table["id"]: self.lfb_class(table) for table in tables.get("class", [])}
+        self.instances = {(table["class"], table["id"]) for table in tables.get("instance", [])}
+
+    def lfb_class(self, table):
+        components = {
+            each["id"]: Component(each["name"], declared(each), each.get("access", 3), each.get("optional", False))
+            for each in table.get("component", [])
+        }
+        return LfbClass(table["name"], components, table.get("event_base", 0))
+
+    def type_at(self, lfb_class, ids):
+        """The type to which a path of IDs leads in a class: a component, and then fields and entries. KeyError where it leads nowhere."""
+        found = self.classes[lfb_class].components[ids[0]].type
+        for ident in ids[1:]:
+            found = found.part(ident)
+            if found is None:
+                raise KeyError(ident)
+        return found
+
+
+# The filter
+
+
+def filter_text(data, out):
+    """What `forces show` writes of a stream, and its status."""
+    try:
+        for message in messages(data):
+            out.write(text(message))
+    except Refused as refused:
+        out.write(f"{refused}\n")
+        return 6
+    return 0
+
+
+def filter_json(data, out):
+    """The messages of a stream as JSON, one a line; what is none ends them with its place and reason, and status 6."""
+    try:
+        for message in messages(data):
+            out.write(json.dumps(to_json(message)) + "\n")
+    except Refused as refused:
+        out.write(json.dumps({"refused": refused.reason, "place": refused.place}) + "\n")
+        return 6
+    return 0
+
+
+def filter_bytes(data, out):
+    """The bytes of messages that stand as JSON, one a line; or status 5 and a word on the first line that is none."""
+    made = []
+    for number, line in enumerate(data.splitlines(), 1):
+        try:
+            made.append(from_json(json.loads(line)).encode())
+        except (AttributeError, KeyError, Refused, TypeError, ValueError, struct.error) as error:
+            print(f"line {number} is no message: {error}", file=sys.stderr)
+            return 5
+    out.write(b"".join(made))
+    return 0
+
+
+def main():
+    if sys.argv[1:] not in (["json"], ["bytes"], ["text"]):
+        sys.exit(__doc__.split("\n\n")[2])
+    data = sys.stdin.buffer.read()
+    if sys.argv[1] == "bytes":
+        return filter_bytes(data, sys.stdout.buffer)
+    return {"json": filter_json, "text": filter_text}[sys.argv[1]](data, sys.stdout)
+
+
+if __name__ == "__main__":
+    sys.exit(main())
