@@ -28,6 +28,7 @@ docs/FORMATS.md tells the formats, and this file was written by it.
 from __future__ import annotations
 
 import json
+import re
 import socket
 import struct
 import sys
@@ -64,6 +65,9 @@ LEAVES = {
     "DEL": {None}, "DEL-RESPONSE": {RESULT}, "GET": {None}, "GET-PROP": {None}, "GET-RESPONSE": {FULLDATA, SPARSEDATA, RESULT},
     "GET-PROP-RESPONSE": {FULLDATA, SPARSEDATA, RESULT}, "REPORT": {FULLDATA},
 }
+# the first words of the lines of what a PATH-DATA holds
+LEAF_WORDS = {FULLDATA: "full", SPARSEDATA: "sparse", RESULT: "code"}
+DECIMAL = b"0|[1-9][0-9]*"
 HEADER = 24
 DEEPEST = 16
 ALL_CONTROL_ELEMENTS = 0xFFFFFFFD
@@ -432,7 +436,7 @@ def receive(connection):
     return decode(header + body) if len(body) == rest else None
 
 
-# Text, as `forces show` writes it
+# Text, as `forces show` writes it and `forces make` reads it
 
 
 def text(message):
@@ -472,6 +476,186 @@ def path_lines(path, indent):
 
 def digits(data):
     return data.hex().upper() or "-"
+
+
+class Misfit(Exception):
+    """A text is no text of messages: the first line that does not fit, and there the column of the first word that does not."""
+
+    def __init__(self, line, column):
+        super().__init__(line, column)
+        self.line, self.column = line, column
+
+    def __str__(self):
+        return f"refused text {self.line} {self.column}"
+
+
+class Line:
+    """The words of a line behind its indentation, which are taken from left to right."""
+
+    def __init__(self, number, line):
+        self.number = number
+        self.indentation = len(line) - len(line.lstrip(b" "))
+        self.words = line[self.indentation :].split(b" ")
+        self.column = self.indentation + 1
+
+    def misfit(self):
+        return Misfit(self.number, self.column)
+
+    def fits(self, pattern):
+        """The next word where it fits the pattern, as it is and not yet taken; else None."""
+        found = self.words and re.fullmatch(pattern, self.words[0])
+        return self.words[0].decode() if found else None
+
+    def take(self, pattern):
+        """The next word, which has to fit the pattern."""
+        word = self.fits(pattern)
+        if word is None:
+            raise self.misfit()
+        self.column += len(self.words.pop(0)) + (1 if self.words else 0)
+        return word
+
+    def one_of(self, names):
+        return self.take("|".join(sorted(names)).encode())
+
+    def hexadecimal(self, count, prefix=b""):
+        return int(self.take(prefix + b"[0-9A-Fa-f]{%d}" % count)[len(prefix) :], 16)
+
+    def decimal(self):
+        if int(self.fits(DECIMAL) or 1 << 32) > 0xFFFFFFFF:
+            raise self.misfit()
+        return int(self.take(DECIMAL))
+
+    def octets(self):
+        word = self.take(b"-|([0-9A-Fa-f]{2})+")
+        return b"" if word == "-" else bytes.fromhex(word)
+
+    def end(self):
+        """The line has no more words."""
+        if self.words:
+            raise self.misfit()
+
+
+class TextReader:
+    """Reads the messages that a text tells."""
+
+    def __init__(self, data):
+        lines = data.removesuffix(b"\n").split(b"\n") if data else []
+        self.lines = [Line(number, line) for number, line in enumerate(lines, 1)]
+        self.at = 0
+
+    def stands(self, level):
+        """Whether the next line is there, and indented by so many levels."""
+        return self.at < len(self.lines) and self.lines[self.at].indentation == 2 * level
+
+    def line(self, level):
+        """The next line, which has to be there and indented so."""
+        if not self.stands(level):
+            raise Misfit(self.at + 1, 1)
+        self.at += 1
+        return self.lines[self.at - 1]
+
+    def messages(self):
+        found = []
+        while self.at < len(self.lines):
+            first = self.at + 1
+            message = self.message()
+            if self.at < len(self.lines) and not self.stands(0):
+                raise Misfit(self.at + 1, 1)
+            try:
+                message.encode()
+            except ValueError:
+                raise Misfit(first, 1) from None
+            found.append(message)
+        return found
+
+    def message(self):
+        line = self.line(0)
+        name = line.one_of(TYPES)
+        ends = [line.hexadecimal(8, b"from="), line.hexadecimal(8, b"to="), line.hexadecimal(16, b"corr=")]
+        message = Message(name, *ends, line.hexadecimal(8, b"flags=") & USED_FLAGS)
+        line.end()
+        if name in NUMBERED:
+            line = self.line(1)
+            line.take(NUMBERED[name][0].encode())
+            message.number = line.decimal()
+            line.end()
+        elif name in STANDS_IN and (name != "AssociationSetup" or self.stands(1)):
+            message.selects = self.some(1, self.select, name)
+        return message
+
+    def some(self, level, read, *given):
+        """One or more of what begins with a line of this level."""
+        found = [read(*given)]
+        while self.stands(level):
+            found.append(read(*given))
+        return found
+
+    def select(self, message):
+        line = self.line(1)
+        line.take(b"lfb")
+        ends = line.hexadecimal(8), line.hexadecimal(8)
+        line.end()
+        return Select(*ends, self.some(2, self.operation, message))
+
+    def operation(self, message):
+        line = self.line(2)
+        operation = Operation(line.one_of(STANDS_IN[message]))
+        line.end()
+        if operation.name == "COMMIT-RESPONSE":
+            line = self.line(3)
+            line.take(b"code")
+            operation.code = line.hexadecimal(2)
+            line.end()
+        elif operation.name in LEAVES:
+            operation.paths = self.some(3, self.path, operation.name, 1)
+        return operation
+
+    def path(self, operation, depth):
+        line = self.line(2 + depth)
+        line.take(b"path")
+        path = Path([])
+        while line.words and not line.fits(b"key"):
+            path.ids.append(line.decimal())
+        if line.words:
+            line.take(b"key")
+            path.key = line.decimal(), line.octets()
+        line.end()
+        self.leaf_or_paths(operation, depth, path)
+        return path
+
+    def leaf_or_paths(self, operation, depth, path):
+        level = 3 + depth
+        leaves = LEAVES[operation] - {None}
+        # no line may stand here where neither a leaf nor another path may
+        may = depth < DEEPEST or leaves
+        if None in LEAVES[operation] and not (may and self.stands(level)):
+            return
+        if self.stands(level) and depth < DEEPEST and self.lines[self.at].fits(b"path"):
+            path.paths = self.some(level, self.path, operation, depth + 1)
+            return
+        line = self.line(level)
+        word = line.one_of({LEAF_WORDS[leaf] for leaf in leaves} or {"path"})
+        if word == "full":
+            path.full = line.octets()
+        elif word == "code":
+            path.code = line.hexadecimal(2)
+        line.end()
+        if word == "sparse":
+            path.sparse = []
+            while self.stands(level + 1):
+                path.sparse.append(self.part(level + 1))
+
+    def part(self, level):
+        line = self.line(level)
+        line.take(b"ilv")
+        part = line.decimal(), line.octets()
+        line.end()
+        return part
+
+
+def read_text(data):
+    """The messages that a text in bytes tells, as `forces make` reads it; Misfit where it tells none."""
+    return TextReader(data).messages()
 
 
 # JSON: identifiers, correlators, flags, codes and values as hexadecimal digits, and all else as numbers; what is not there is left out
