@@ -192,9 +192,10 @@ class Message:
     selects: list[Select] = field(default_factory=list)
 
     def encode(self):
-        """The canonical bytes. What may not stand in such a message raises Refused, and what is too long for its field ValueError."""
+        """The canonical bytes. What may not stand in such a message raises Refused, a name that is none KeyError, and what is too long for
+        its field ValueError."""
         body = b"".join(select.encode() for select in self.selects)
-        if self.number is not None and self.name in NUMBERED:
+        if self.number is not None:
             body += tlv(NUMBERED[self.name][1], struct.pack(">I", self.number))
         words = (HEADER + len(body)) // 4
         if words > 0xFFFF:
@@ -712,52 +713,82 @@ def known_keys(made, *keys):
     """What stands at each of the keys, and None where nothing does. Other keys raise ValueError."""
     for key in made:
         if key not in keys:
-            raise ValueError(f"the key {key!r} stands nowhere here")
+            raise ValueError(f"the key {key!r} may not stand here")
     return [made.get(key) for key in keys]
+
+
+def hexadecimal(word, count):
+    """The number of a string of so many digits."""
+    if not re.fullmatch("[0-9A-Fa-f]{%d}" % count, word):
+        raise ValueError(f"{word!r} is not {count} hexadecimal digits")
+    return int(word, 16)
+
+
+def octets(word):
+    """The bytes of a string of two digits for each."""
+    if not re.fullmatch("([0-9A-Fa-f]{2})*", word):
+        raise ValueError(f"{word!r} is not two hexadecimal digits for each byte")
+    return bytes.fromhex(word)
+
+
+def decimal(number):
+    """A number of 32 bits."""
+    if type(number) is not int or not 0 <= number <= 0xFFFFFFFF:
+        raise ValueError(f"{number!r} is no number of 32 bits")
+    return number
 
 
 def from_json(made):
     """The message that such an object tells."""
-    name, sender, addressee, correlator, flags, reason, number, selects = known_keys(
-        made, "type", "from", "to", "correlator", "flags", "reason", "result", "selects"
-    )
-    ends = [int(word, 16) for word in (sender, addressee, correlator or "0", flags or "0")]
+    name = made["type"]
     if name not in TYPES:
         raise ValueError(f"no type of message is called {name!r}")
-    if number is None:
-        number = reason
-    return Message(name, *ends, number, [select_from_json(select) for select in selects or []])
+    held = NUMBERED[name][0] if name in NUMBERED else "selects"
+    _, sender, addressee, correlator, flags, body = known_keys(made, "type", "from", "to", "correlator", "flags", held)
+    message = Message(name, hexadecimal(sender, 8), hexadecimal(addressee, 8))
+    if correlator is not None:
+        message.correlator = hexadecimal(correlator, 16)
+    if flags is not None:
+        message.flags = hexadecimal(flags, 8) & USED_FLAGS
+    if name in NUMBERED:
+        message.number = decimal(body)
+    else:
+        message.selects = [select_from_json(select) for select in body or []]
+    return message
 
 
 def select_from_json(made):
     lfb_class, instance, operations = known_keys(made, "class", "instance", "operations")
-    return Select(int(lfb_class, 16), int(instance, 16), [operation_from_json(operation) for operation in operations])
+    return Select(hexadecimal(lfb_class, 8), hexadecimal(instance, 8), [operation_from_json(operation) for operation in operations])
 
 
 def operation_from_json(made):
     name, code, paths = known_keys(made, "operation", "code", "paths")
     if name not in OPERATIONS:
         raise ValueError(f"no operation is called {name!r}")
-    return Operation(name, [path_from_json(path) for path in paths or []], code and int(code, 16))
+    operation = Operation(name, [path_from_json(path) for path in paths or []])
+    if code is not None:
+        operation.code = hexadecimal(code, 2)
+    return operation
 
 
 def path_from_json(made):
     ids, key, full, sparse, code, paths = known_keys(made, "ids", "key", "full", "sparse", "code", "paths")
-    path = Path(ids, paths=[path_from_json(inner) for inner in paths or []])
+    path = Path([decimal(ident) for ident in ids], paths=[path_from_json(inner) for inner in paths or []])
     if key is not None:
         path.key = part_from_json(key)
     if full is not None:
-        path.full = bytes.fromhex(full)
+        path.full = octets(full)
     if sparse is not None:
         path.sparse = [part_from_json(part) for part in sparse]
     if code is not None:
-        path.code = int(code, 16)
+        path.code = hexadecimal(code, 2)
     return path
 
 
 def part_from_json(made):
     ident, value = known_keys(made, "id", "value")
-    return ident, bytes.fromhex(value)
+    return decimal(ident), octets(value)
 
 
 # Values of declared types (RFC 5812, section 4.5). In Python they are bool, int, str for a text, bytes for octets and bytes, a dict by
@@ -1079,7 +1110,7 @@ def filter_bytes(data, out):
     for number, line in enumerate(data.splitlines(), 1):
         try:
             made.append(from_json(json.loads(line)).encode())
-        except (AttributeError, KeyError, Refused, TypeError, ValueError, struct.error) as error:
+        except (AttributeError, KeyError, RecursionError, Refused, TypeError, ValueError, struct.error) as error:
             print(f"line {number} is no message: {error}", file=sys.stderr)
             return 5
     out.write(b"".join(made))
