@@ -29,7 +29,6 @@ from __future__ import annotations
 
 import json
 import re
-import socket
 import struct
 import sys
 from dataclasses import dataclass, field
@@ -67,7 +66,7 @@ LEAVES = {
 }
 # the first words of the lines of what a PATH-DATA holds
 LEAF_WORDS = {FULLDATA: "full", SPARSEDATA: "sparse", RESULT: "code"}
-DECIMAL = b"0|[1-9][0-9]*"
+DECIMAL = b"0|[1-9][0-9]{0,9}"
 HEADER = 24
 DEEPEST = 16
 ALL_CONTROL_ELEMENTS = 0xFFFFFFFD
@@ -137,6 +136,8 @@ class Path:
     paths: list[Path] = field(default_factory=list)
 
     def encode(self):
+        if len(self.ids) > 0xFFFF:
+            raise ValueError("a PATH-DATA has at most 65,535 IDs")
         key = b""
         if self.key is not None:
             key = tlv(KEYINFO, struct.pack(">I", self.key[0]) + tlv(FULLDATA, self.key[1]))
@@ -429,12 +430,18 @@ def messages(data):
 
 def receive(connection):
     """The next message from a socket, and None where the peer has hung up before a whole one."""
-    header = connection.recv(HEADER, socket.MSG_WAITALL)
-    if len(header) < HEADER:
-        return None
+    header = received(connection, HEADER)
     rest = max(0, 4 * int.from_bytes(header[2:4], "big") - HEADER)
-    body = connection.recv(rest, socket.MSG_WAITALL)
-    return decode(header + body) if len(body) == rest else None
+    body = received(connection, rest)
+    return decode(header + body) if len(header) == HEADER and len(body) == rest else None
+
+
+def received(connection, count):
+    """So many bytes from a socket, or fewer where the peer has hung up."""
+    data = b""
+    while len(data) < count and (piece := connection.recv(count - len(data))):
+        data += piece
+    return data
 
 
 # Text, as `forces show` writes it and `forces make` reads it
