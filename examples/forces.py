@@ -1,14 +1,15 @@
 #!/usr/bin/env python3
-"""The messages of `forces` and the values of its libraries, in Python's standard library alone.
+"""The messages of `forces` and the values of its libraries, in Python (3.9 or newer) and its standard library alone.
 
 As a filter, from standard input to standard output:
 
     python3 forces.py json < messages      each message as one JSON object, one a line
     python3 forces.py bytes < lines        the bytes of such lines
-    python3 forces.py text < messages      what `forces show` writes of the messages
+    python3 forces.py show < messages      what `forces show` writes
+    python3 forces.py make < text          what `forces make` writes
 
-Bytes that are no message end `json` and `text` with status 6, and their last line tells why; lines that are no message end `bytes` with
-status 5 and nothing written.
+Bytes that are no message end `json` and `show` with status 6, and their last line tells why; what is no text ends `make` with status 5
+and one line, and lines that are no messages end `bytes` with status 5 and a word on standard error.
 
 As a module, a query and what comes back:
 
@@ -23,7 +24,7 @@ and a value of a library, which is read from its TOML document (this needs Pytho
     ports = library.type_at(0x1001, [4])
     ports.write({1: {1: "eth0", 2: 100, 3: True}})
 
-docs/FORMATS.md tells the formats, and this file was written by it.
+docs/FORMATS.md tells the formats, and this file was written by it alone.
 """
 from __future__ import annotations
 
@@ -1086,33 +1087,44 @@ class Library:
         return found
 
 
-# The filter
+# The filter: each of its words reads bytes, writes bytes to `out` and gives a status
 
 
-def filter_text(data, out):
-    """What `forces show` writes of a stream, and its status."""
+def filter_show(data, out):
+    """What `forces show` writes of a stream."""
     try:
         for message in messages(data):
-            out.write(text(message))
+            out.write(text(message).encode())
     except Refused as refused:
-        out.write(f"{refused}\n")
+        out.write(f"{refused}\n".encode())
         return 6
     return 0
 
 
+def filter_make(data, out):
+    """What `forces make` writes of a text."""
+    try:
+        made = b"".join(message.encode() for message in read_text(data))
+    except Misfit as misfit:
+        out.write(f"{misfit}\n".encode())
+        return 5
+    out.write(made)
+    return 0
+
+
 def filter_json(data, out):
-    """The messages of a stream as JSON, one a line; what is none ends them with its place and reason, and status 6."""
+    """The messages of a stream as JSON, one a line; what is none ends them with its place and reason."""
     try:
         for message in messages(data):
-            out.write(json.dumps(to_json(message)) + "\n")
+            out.write(json.dumps(to_json(message)).encode() + b"\n")
     except Refused as refused:
-        out.write(json.dumps({"refused": refused.reason, "place": refused.place}) + "\n")
+        out.write(json.dumps({"refused": refused.reason, "place": refused.place}).encode() + b"\n")
         return 6
     return 0
 
 
 def filter_bytes(data, out):
-    """The bytes of messages that stand as JSON, one a line; or status 5 and a word on the first line that is none."""
+    """The bytes of messages that stand as JSON, one a line; or nothing, and a word on the first line that is none."""
     made = []
     for number, line in enumerate(data.splitlines(), 1):
         try:
@@ -1124,13 +1136,13 @@ def filter_bytes(data, out):
     return 0
 
 
+FILTERS = {"json": filter_json, "bytes": filter_bytes, "show": filter_show, "make": filter_make}
+
+
 def main():
-    if sys.argv[1:] not in (["json"], ["bytes"], ["text"]):
+    if len(sys.argv) != 2 or sys.argv[1] not in FILTERS:
         sys.exit(__doc__.split("\n\n")[2])
-    data = sys.stdin.buffer.read()
-    if sys.argv[1] == "bytes":
-        return filter_bytes(data, sys.stdout.buffer)
-    return {"json": filter_json, "text": filter_text}[sys.argv[1]](data, sys.stdout)
+    return FILTERS[sys.argv[1]](sys.stdin.buffer.read(), sys.stdout.buffer)
 
 
 if __name__ == "__main__":
