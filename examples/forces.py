@@ -634,16 +634,16 @@ class TextReader:
 
     def leaf_or_paths(self, operation, depth, path):
         level = 3 + depth
-        leaves = LEAVES[operation] - {None}
-        # no line may stand here where neither a leaf nor another path may
-        may = depth < DEEPEST or leaves
-        if None in LEAVES[operation] and not (may and self.stands(level)):
-            return
-        if self.stands(level) and depth < DEEPEST and self.lines[self.at].fits(b"path"):
+        words = {LEAF_WORDS[leaf] for leaf in LEAVES[operation] if leaf is not None}
+        nests = depth < DEEPEST and self.stands(level)
+        if nests and (not words or self.lines[self.at].fits(b"path")):
             path.paths = self.some(level, self.path, operation, depth + 1)
-            return
+        elif words:
+            self.leaf(level, words, path)
+
+    def leaf(self, level, words, path):
         line = self.line(level)
-        word = line.one_of({LEAF_WORDS[leaf] for leaf in leaves} or {"path"})
+        word = line.one_of(words)
         if word == "full":
             path.full = line.octets()
         elif word == "code":
