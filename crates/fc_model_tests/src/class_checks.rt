@@ -177,7 +177,7 @@ fn the_first_of_two_faults(rt: HostRuntime) -> Result<(), Fail> {
 }
 
 // So many classes, the first of which has so many members.
-fn many_classes(alloc: Global, count: u32, members: u32) -> Result<Vec<Class>, Memory> {
+pub(crate) fn many_classes(alloc: Global, count: u32, members: u32) -> Result<Vec<Class>, Memory> {
     let mut fields = List::new(alloc);
     for id in 2..members {
         fields.push(field(alloc, id, Ty::Bool)?)?;
@@ -190,7 +190,7 @@ fn many_classes(alloc: Global, count: u32, members: u32) -> Result<Vec<Class>, M
     Ok(classes)
 }
 
-fn many_instances(alloc: Global, count: u32) -> Result<Vec<(u32, u32)>, Memory> {
+pub(crate) fn many_instances(alloc: Global, count: u32) -> Result<Vec<(u32, u32)>, Memory> {
     let mut pairs = Vec::new(alloc);
     for id in 0..count {
         pairs.push((100, id))?;

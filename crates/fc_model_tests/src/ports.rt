@@ -6,7 +6,7 @@ ghost use Rattle.fc_types.specs.Classes.{class_keeps};
 ghost use Rattle.fc_types.specs.Libraries.{AreKnown, KeepRules, class_id, is_own};
 ghost use Rattle.fc_types.specs.declared.class_rules.ClassRule.{ClassRule};
 
-use crate::class_checks::two_instances;
+use crate::class_checks::{many_classes, many_instances, two_instances};
 use crate::declarations::{event, key, named_component, named_field, number, text, word};
 use fc_base::{Boxed, Duplicate, List, Memory, Text};
 use fc_types::{
@@ -182,5 +182,35 @@ fn ports_with_the_built_in_classes(rt: HostRuntime) -> Result<(), Fail> {
         (MASTERSHIP, 1),
     ];
     assert!(rt; instances.pairs() == pairs.as_slice());
+    Ok(())
+}
+
+// As many classes and instances as a library may have.
+fn largest(alloc: Global) -> Result<(Library, Instances), CheckFault>
+    ensures known { IfOk result (λ r. AreKnown r.0 r.1) }
+    ensures own { IfOk result (λ r. list_all is_own r.0 ≡ true) }
+{
+    let Ok(classes) = many_classes(alloc, 256, 2) else {
+        return Err(CheckFault::Memory);
+    };
+    let Ok(pairs) = many_instances(alloc, 4_096) else {
+        return Err(CheckFault::Memory);
+    };
+    Library::check(classes, pairs)
+}
+
+#[test]
+fn the_largest_library_is_copied_and_built_on(rt: HostRuntime) -> Result<(), Fail> {
+    let alloc = rt.alloc();
+    let (library, instances) = largest(alloc)?;
+    assert!(rt; instances.copy()?.pairs() == instances.pairs());
+    let copied = library.copy()?;
+    assert_eq!(rt; copied.classes().len(), 256);
+    for (class, other) in copied.classes().iter().zip(library.classes()) {
+        assert_eq!(rt; class.id, other.id);
+    }
+    let (library, instances) = library.with_built_in(instances, bare_classes(alloc)?)?;
+    assert_eq!(rt; library.classes().len(), 259);
+    assert_eq!(rt; instances.pairs().len(), 4_099);
     Ok(())
 }
