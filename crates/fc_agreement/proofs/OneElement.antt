@@ -1,9 +1,10 @@
 -- Whatever an element is sent keeps what its records tell, and their limits.
 use Rattle.std.proofs.Common.{◌≡◌, ℕ, ◌≤◌, ◌==◌, Bool, true, false, cond, List, [], ◌∷◌, ◌++◌, length, ◌&&◌, not, nat_le, Option, Some, None, ⊎_elim, refl, sym, ap, ◌∙◌, subst, arith, eqb-true}
+use Rattle.fc_agreement.specs.Restarts.{with_restarts}
 use Rattle.fc_agreement.specs.Scopes.{RisingScopes}
 use Rattle.fc_base.specs.Ids.{Txn}
 use Rattle.fc_protocol.specs.Collections.{among}
-use Rattle.fc_protocol.specs.ElementMachine.{ElementState, new_element, Circumstance, acts, after, idles, takes_part, rises_above, admits, Heard, only_says, reply, by_verdict, configured, by_body, hears}
+use Rattle.fc_protocol.specs.ElementMachine.{ElementState, new_element, resumed, Circumstance, acts, after, idles, takes_part, rises_above, admits, Heard, only_says, reply, by_verdict, configured, by_body, hears}
 use Rattle.fc_protocol.specs.Floors.{is_below, held_under, forgotten, floor_code}
 use Rattle.fc_protocol.specs.Messages.{same, is_name, Stamp, Body, Claim, Sot, Mot, Eot, Trcomp, Abt, Floor, Malformed, Plain, Ask, Ask_record}
 use Rattle.fc_protocol.specs.OneElement.{Arrival, hears_all, PreparedFirst, SettlesOnce, RecordsTell, FloorClear, Distinct, Limited, ScopesApart, FewParticipants}
@@ -238,12 +239,18 @@ module _ (p : ℕ) where
   distinct [] s = tt
   distinct (n ∷ ns) s = (absent_of n.txn [] ns ((s n.txn).0 (same_self n.txn)), distinct ns (λ x. (s x).1))
 
-  module _ (ce : ℕ) (arrivals : List Arrival) where
+  runs_sound : (runs : List (List Arrival)) (el : ElementState) (fs : List Fact) → Sound el.floor el.records fs → Sound (with_restarts p runs el fs).element.floor (with_restarts p runs el fs).element.records (with_restarts p runs el fs).facts
+  runs_sound [] el fs s = s
+  runs_sound (arrivals ∷ runs) el fs s =
+      let r = hears_all p arrivals (resumed el) fs in
+      runs_sound runs r.element r.facts (all_sound arrivals (resumed el) fs s)
+
+  module _ (ce : ℕ) (runs : List (List Arrival)) where
     abbrev pub then : Heard
-    then = hears_all p arrivals (new_element ce) []
+    then = with_restarts p runs (new_element ce) []
 
     sound : Sound then.element.floor then.element.records then.facts
-    sound = all_sound arrivals (new_element ce) [] new_sound
+    sound = runs_sound runs (new_element ce) [] new_sound
 
     pub first_law : PreparedFirst p then.facts
     first_law x later before = first_known p x then.facts (sound.kept x).now (sound.kept x).known later before

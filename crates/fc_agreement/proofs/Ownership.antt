@@ -1,6 +1,7 @@
 -- Who has claimed an element.
 use Rattle.std.proofs.Common.{◌≡◌, ℕ, ◌+◌, ◌==◌, ◌&&◌, Bool, true, false, cond, List, [], ◌∷◌, ◌++◌, Option, Some, None, ⊎_elim, refl, sym, ap, ◌∙◌, eqb-true}
-use Rattle.fc_protocol.specs.ElementMachine.{ElementState, new_element, Circumstance, Heard, only_says, reply, by_verdict, configured, by_body, hears}
+use Rattle.fc_agreement.specs.Restarts.{with_restarts}
+use Rattle.fc_protocol.specs.ElementMachine.{ElementState, new_element, resumed, Circumstance, Heard, only_says, reply, by_verdict, configured, by_body, hears}
 use Rattle.fc_protocol.specs.Fence.{claims, judge}
 use Rattle.fc_protocol.specs.Messages.{is_epoch, Stamp, Body, Claim, Sot, Mot, Eot, Trcomp, Abt, Floor, Malformed, Plain, Ask, Ask_record, claim_of}
 use Rattle.fc_protocol.specs.OneElement.{Arrival, hears_all, Owned}
@@ -86,5 +87,11 @@ module _ (ce p : ℕ) where
       let r = hears p el a.sender a.circumstance a.stamp a.body in
       owned_all rest r.element (r.facts ++ fs) (owned_if a.circumstance.unheard (only_says el None) (by_body p el a.sender a.circumstance a.stamp a.body) o (owned_body el a.sender a.circumstance a.stamp a.body o))
 
-  pub owned_law : (arrivals : List Arrival) → Owned ce (hears_all p arrivals (new_element ce) []).element
-  owned_law arrivals = owned_all arrivals (new_element ce) [] ((λ z. (refl, refl, refl)), (λ z. let t : true ≡ false = z in cc))
+  owned_runs : (runs : List (List Arrival)) (el : ElementState) (fs : List Fact) → Owned ce el → Owned ce (with_restarts p runs el fs).element
+  owned_runs [] el fs o = o
+  owned_runs (arrivals ∷ runs) el fs o =
+      let r = hears_all p arrivals (resumed el) fs in
+      owned_runs runs r.element r.facts (owned_all arrivals (resumed el) fs o)
+
+  pub owned_law : (runs : List (List Arrival)) → Owned ce (with_restarts p runs (new_element ce) []).element
+  owned_law runs = owned_runs runs (new_element ce) [] ((λ z. (refl, refl, refl)), (λ z. let t : true ≡ false = z in cc))

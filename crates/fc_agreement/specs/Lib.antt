@@ -4,3 +4,4 @@ pub mod Agreement
 pub mod Runs
 pub mod CleanRound
 pub mod Scopes
+pub mod Restarts

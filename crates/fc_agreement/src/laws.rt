@@ -5,10 +5,11 @@ ghost use Rattle.fc_agreement.specs.Agreement.{Agree, SettleOnce, Ready, OnePlan
 ghost use Rattle.fc_agreement.specs.CleanRound.{CleanRound};
 ghost use Rattle.fc_agreement.specs.Core.{Core, Move, moves, start};
 ghost use Rattle.fc_agreement.specs.CoreLaws.{OneEnd, PreparedBefore, PreparedDecided, ReachedDecided, NoLaterAbort, AnswersStay, EndsStay, DecisionsStay};
+ghost use Rattle.fc_agreement.specs.Restarts.{OneRun, with_restarts};
 ghost use Rattle.fc_agreement.specs.Scopes.{RisingScopes};
 ghost use Rattle.fc_protocol.specs.ElementMachine.{ElementState, new_element, Circumstance, hears};
 ghost use Rattle.fc_protocol.specs.Messages.{Stamp, Body};
-ghost use Rattle.fc_protocol.specs.OneElement.{Arrival, hears_all, PreparedFirst, SettlesOnce, RecordsTell, FloorClear, Distinct, Limited, ScopesApart, FewParticipants, Owned};
+ghost use Rattle.fc_protocol.specs.OneElement.{Arrival, PreparedFirst, SettlesOnce, RecordsTell, FloorClear, Distinct, Limited, ScopesApart, FewParticipants, Owned};
 ghost use Rattle.fc_protocol.specs.WorldSteps.{Network, Step, first_world, run};
 
 /// Of one transaction of a life of the epoch `own`, with the participants `parts`, over every list of moves from the start; and, where it says so, over every further list of moves.
@@ -47,20 +48,21 @@ pub fn fenced()
     ensures { (p : ℕ) (el : ElementState) (k : ℕ) (c : Circumstance) (m : Stamp) (b : Body) → m.life < el.epoch → ((hears p el k c m b).element ≡ el) × ((hears p el k c m b).facts ≡ []) }
 {}
 
-/// Of one element by itself, whatever requests it is sent, by whomever: it completes only what it has prepared and settles a transaction at most once, its records tell what it has settled and is not below its floor, no record is below it,
-/// no two are of one transaction, no two scopes of what is held meet, at most 64 are held, and there are at most 4,096, each with at most 64 participants and a scope that rises and names no instance of the control class;
+/// Of one element by itself over its whole life, whatever requests it is sent, by whomever, and however often it stops and resumes: it completes only what it has prepared and settles a transaction at most once, its records tell what it has
+/// settled and is not below its floor, no record is below it, no two are of one transaction, no two scopes of what is held meet, at most 64 are held, and there are at most 4,096, each with at most 64 participants and a scope that rises and names no instance of the control class;
 /// its epoch is 0 or one, and only while it is 0 it has no master.
 pub fn one_element()
-    ensures prepared_first { (p ce : ℕ) (arrivals : List Arrival) → PreparedFirst p (hears_all p arrivals (new_element ce) []).facts }
-    ensures settles_once { (p ce : ℕ) (arrivals : List Arrival) → SettlesOnce p (hears_all p arrivals (new_element ce) []).facts }
-    ensures records_tell { (p ce : ℕ) (arrivals : List Arrival) → RecordsTell p (hears_all p arrivals (new_element ce) []).element.floor (hears_all p arrivals (new_element ce) []).element.records (hears_all p arrivals (new_element ce) []).facts }
-    ensures floor_clear { (p ce : ℕ) (arrivals : List Arrival) → FloorClear (hears_all p arrivals (new_element ce) []).element.floor (hears_all p arrivals (new_element ce) []).element.records }
-    ensures distinct { (p ce : ℕ) (arrivals : List Arrival) → Distinct (hears_all p arrivals (new_element ce) []).element.records }
-    ensures apart { (p ce : ℕ) (arrivals : List Arrival) → ScopesApart (hears_all p arrivals (new_element ce) []).element.records }
-    ensures rising { (p ce : ℕ) (arrivals : List Arrival) → RisingScopes (hears_all p arrivals (new_element ce) []).element.records }
-    ensures few { (p ce : ℕ) (arrivals : List Arrival) → FewParticipants (hears_all p arrivals (new_element ce) []).element.records }
-    ensures owned { (p ce : ℕ) (arrivals : List Arrival) → Owned ce (hears_all p arrivals (new_element ce) []).element }
-    ensures limited { (p ce : ℕ) (arrivals : List Arrival) → Limited (hears_all p arrivals (new_element ce) []).element.records }
+    ensures one_run { (p ce : ℕ) (arrivals : List Arrival) → OneRun p ce arrivals }
+    ensures prepared_first { (p ce : ℕ) (runs : List (List Arrival)) → PreparedFirst p (with_restarts p runs (new_element ce) []).facts }
+    ensures settles_once { (p ce : ℕ) (runs : List (List Arrival)) → SettlesOnce p (with_restarts p runs (new_element ce) []).facts }
+    ensures records_tell { (p ce : ℕ) (runs : List (List Arrival)) → RecordsTell p (with_restarts p runs (new_element ce) []).element.floor (with_restarts p runs (new_element ce) []).element.records (with_restarts p runs (new_element ce) []).facts }
+    ensures floor_clear { (p ce : ℕ) (runs : List (List Arrival)) → FloorClear (with_restarts p runs (new_element ce) []).element.floor (with_restarts p runs (new_element ce) []).element.records }
+    ensures distinct { (p ce : ℕ) (runs : List (List Arrival)) → Distinct (with_restarts p runs (new_element ce) []).element.records }
+    ensures apart { (p ce : ℕ) (runs : List (List Arrival)) → ScopesApart (with_restarts p runs (new_element ce) []).element.records }
+    ensures rising { (p ce : ℕ) (runs : List (List Arrival)) → RisingScopes (with_restarts p runs (new_element ce) []).element.records }
+    ensures few { (p ce : ℕ) (runs : List (List Arrival)) → FewParticipants (with_restarts p runs (new_element ce) []).element.records }
+    ensures owned { (p ce : ℕ) (runs : List (List Arrival)) → Owned ce (with_restarts p runs (new_element ce) []).element }
+    ensures limited { (p ce : ℕ) (runs : List (List Arrival)) → Limited (with_restarts p runs (new_element ce) []).element.records }
 {}
 
 /// In every world: where a transaction may begin at idle elements, and all messages from there on arrive once and in their order, until none is left, and the operations succeed, every participant completes it,

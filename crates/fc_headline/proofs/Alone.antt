@@ -1,19 +1,21 @@
 -- One element by itself goes as the protocol's.
 use Rattle.std.proofs.Common.{eq-eqb, ◌≡◌, ℕ, true, List, [], ◌∷◌, ◌++◌, refl, sym, ap, ◌∙◌, subst}
+use Rattle.fc_agreement.specs.Restarts as bare
 use Rattle.fc_agreement.specs.Scopes.{RisingScopes}
 use Rattle.fc_machine.specs.ElementMachine.{Input, Opened, Arrived, Closed, Moment, Step, on_moment, step, steps}
-use Rattle.fc_machine.specs.ElementState.{Entry, Element, new_element, ops_of, bares, tx}
+use Rattle.fc_machine.specs.ElementState.{Entry, Element, new_element, restarted, ops_of, bares, tx}
 use Rattle.fc_machine.specs.Ground.{Ground, Lawful}
 use Rattle.fc_machine.specs.Messages.{Message, Setup, Beat, Response, Says, Notice, Accepted, Teardown, Beat_down, Query, Configure}
 use Rattle.fc_headline.specs.OneElement.{Each, Inside, ElementKeeps}
+use Rattle.fc_headline.specs.Restarts.{with_restarts}
 use Rattle.fc_machine.specs.Trace.{Fact, Of_protocol, bare_facts}
 use Rattle.fc_machine.specs.Views.{config_body, query_body, view, circumstance_of}
 use Rattle.fc_headline.proofs.Arriving.{IsSilent, moment_aside, arrives, beat_silent, told_silent}
-use Rattle.fc_headline.proofs.Folded.{steps_fold, new_folds}
+use Rattle.fc_headline.proofs.Folded.{runs_fold, new_folds}
 use Rattle.fc_headline.proofs.Likes.{bare_append}
 use Rattle.fc_headline.proofs.Registered.{associates}
 use Rattle.fc_headline.proofs.Scopes.{Fine}
-use Rattle.fc_headline.proofs.Sound.{each_held, steps_sound, new_sound, all_pass}
+use Rattle.fc_headline.proofs.Sound.{each_held, runs_sound, new_sound, all_pass}
 use Rattle.fc_headline.proofs.Worlds.{in_bare, in_whole}
 use Rattle.fc_protocol.specs.ElementMachine as protocol
 use Rattle.fc_protocol.specs.ElementMachine.{ElementState, Circumstance, Heard, only_says, hears}
@@ -78,7 +80,7 @@ module _ {Config Op Subs : Type 0} (g : Ground Config Op Subs) (p : ℕ) where
   one_step el fs (Moment t) = let a = moment_aside g p el t in quiet_step el fs (on_moment g el t) a.element (ap bare_facts a.facts)
 
   -- the requests of a list of inputs
-  pub goes_as : (inputs : List (Input Op)) (el : Element Config Op Subs) (fs : List (Fact Op)) → (arrivals : List Arrival) × ((tx (steps g p inputs el fs).element ≡ (hears_all p arrivals (tx el) (bare_facts fs)).element) × (bare_facts (steps g p inputs el fs).facts ≡ (hears_all p arrivals (tx el) (bare_facts fs)).facts))
+  goes_as : (inputs : List (Input Op)) (el : Element Config Op Subs) (fs : List (Fact Op)) → (arrivals : List Arrival) × ((tx (steps g p inputs el fs).element ≡ (hears_all p arrivals (tx el) (bare_facts fs)).element) × (bare_facts (steps g p inputs el fs).facts ≡ (hears_all p arrivals (tx el) (bare_facts fs)).facts))
   goes_as [] el fs = ([], (refl, refl))
   goes_as (i ∷ rest) el fs =
       let o = one_step el fs i in
@@ -86,6 +88,17 @@ module _ {Config Op Subs : Type 0} (g : Ground Config Op Subs) (p : ℕ) where
       let v = goes_as rest r.element (r.facts ++ fs) in
       let s = o.same v.0 (tx el) (bare_facts fs) refl refl in
       (o.arrivals ++ v.0, (v.1.0 ∙ ap (λ (h : Heard). h.element) (sym s), v.1.1 ∙ ap (λ (h : Heard). h.facts) (sym s)))
+
+  -- those of all runs: each goes as one of the bare element
+  pub runs_go_as : (runs : List (List (Input Op))) (el : Element Config Op Subs) (fs : List (Fact Op)) → (arrivals : List (List Arrival)) × ((tx (with_restarts g p runs el fs).element ≡ (bare.with_restarts p arrivals (tx el) (bare_facts fs)).element) × (bare_facts (with_restarts g p runs el fs).facts ≡ (bare.with_restarts p arrivals (tx el) (bare_facts fs)).facts))
+  runs_go_as [] el fs = ([], (refl, refl))
+  runs_go_as (inputs ∷ runs) el fs =
+      let a = goes_as inputs (restarted el) fs in
+      let r = steps g p inputs (restarted el) fs in
+      let h = hears_all p a.0 (tx el) (bare_facts fs) in
+      let v = runs_go_as runs r.element r.facts in
+      let s = ap (λ e. bare.with_restarts p v.0 e (bare_facts r.facts)) a.1.0 ∙ ap (bare.with_restarts p v.0 h.element) a.1.1 in
+      (a.0 ∷ v.0, (v.1.0 ∙ ap (λ (h : Heard). h.element) s, v.1.1 ∙ ap (λ (h : Heard). h.facts) s))
 
 to_each : {A : Type 0} (P : A → Type 0) (xs : List A) → AllOf P xs → Each P xs
 to_each P [] h = tt
@@ -97,13 +110,13 @@ module _ {Config Op Subs : Type 0} (g : Ground Config Op Subs) where
   to_inside (n ∷ ns) f = ((λ h. to_each _ (ops_of n) (f.0 h)), to_inside ns f.1)
 
   pub element_keeps : Lawful g → ElementKeeps g
-  element_keeps law p opening subs ce inputs =
+  element_keeps law p opening subs ce runs =
       let first = new_element opening subs ce in
-      let a = goes_as g p inputs first [] in
-      let r = steps g p inputs first [] in
-      let f = steps_fold g law opening p inputs first [] (new_folds g opening p) in
-      let s = steps_sound g ce p (λ ops. true) inputs first [] (all_pass inputs) (new_sound g ce (λ ops. true) opening subs) in
-      let h = hears_all p a.0 (protocol.new_element ce) [] in
+      let a = runs_go_as g p runs first [] in
+      let r = with_restarts g p runs first [] in
+      let f = runs_fold g law opening p runs first [] (new_folds g opening p) in
+      let s = runs_sound g ce p (λ ops. true) runs first [] (all_pass runs) (new_sound g ce (λ ops. true) opening subs) in
+      let h = bare.with_restarts p a.0 (protocol.new_element ce) [] in
       let records : bares r.element.records ≡ h.element.records = ap (λ (e : ElementState). e.records) a.1.0 in
       record {
         prepared = λ x later before e. in_whole (Prepared_at p x) before (first_law p ce a.0 x (bare_facts later) (bare_facts before) (sym a.1.1 ∙ ap bare_facts e ∙ bare_append later (Of_protocol (Settled_at p x Complete) ∷ before)));
@@ -119,7 +132,7 @@ module _ {Config Op Subs : Type 0} (g : Ground Config Op Subs) where
         unclaimed = λ z. f.1 (eq-eqb r.element.epoch 0 z);
         owned = subst (Owned ce) (sym a.1.0) (owned_law ce p a.0);
         controller = s.0;
-        associations = associates g law p ce opening subs inputs;
+        associations = associates g law p ce opening subs runs;
         kept = s.1;
         rests = (each_held (λ ops. true) r.element.records s.2).0;
       }

@@ -7,8 +7,9 @@ use Rattle.fc_modes.specs.Modes.{folded, outcome}
 use Rattle.fc_modes.specs.declared.mode.Mode.{Mode}
 use Rattle.fc_modes.proofs.Outcomes.{kept_is_done}
 use Rattle.fc_machine.specs.ElementMachine.{Input, Opened, Arrived, Closed, Moment, Step, acts, unclaimed_by, unclaimed, by_verdict, by_mode, on_config, heard_from, with_associations, ended, from_associate, accepts, is_ce, moved_on, watched, is_due, step, steps}
-use Rattle.fc_machine.specs.ElementState.{Entry, Element, new_element, held_ops, working, written, rest_added, bares, first_code}
+use Rattle.fc_machine.specs.ElementState.{Entry, Element, new_element, restarted, held_ops, working, written, rest_added, bares, first_code}
 use Rattle.fc_headline.specs.Folds.{Clean, ElementFolds}
+use Rattle.fc_headline.specs.Restarts.{with_restarts}
 use Rattle.fc_machine.specs.Ground.{Place, Ground, Lawful}
 use Rattle.fc_machine.specs.Messages.{Configuring, Message, Setup, Beat, Response, Says, Notice, Accepted, Teardown, Beat_down, Query, Configure}
 use Rattle.fc_machine.specs.Trace.{Fact, of_protocol}
@@ -361,9 +362,14 @@ module _ {Config Op Subs : Type 0} (g : Ground Config Op Subs) (law : Lawful g) 
   step_folds el fs f (Closed peer) = f
   step_folds el fs f (Moment moment) = let r = watched g (moved_on g el moment) in let k = watched_folds (moved_on g el moment) fs f in step_if fs (is_due g r.0) _ _ k k
 
-  pub steps_fold : (inputs : List (Input Op)) (el : Element Config Op Subs) (fs : List (Fact Op)) → FoldsIn fs el → let r = steps g p inputs el fs in FoldsIn r.facts r.element
+  steps_fold : (inputs : List (Input Op)) (el : Element Config Op Subs) (fs : List (Fact Op)) → FoldsIn fs el → let r = steps g p inputs el fs in FoldsIn r.facts r.element
   steps_fold [] el fs f = f
   steps_fold (i ∷ rest) el fs f = let r = step g p el i in steps_fold rest r.element (r.facts ++ fs) (step_folds el fs f i)
+
+  -- a restart loses nothing of this
+  pub runs_fold : (runs : List (List (Input Op))) (el : Element Config Op Subs) (fs : List (Fact Op)) → FoldsIn fs el → let r = with_restarts g p runs el fs in FoldsIn r.facts r.element
+  runs_fold [] el fs f = f
+  runs_fold (inputs ∷ runs) el fs f = let r = steps g p inputs (restarted el) fs in runs_fold runs r.element r.facts (steps_fold inputs (restarted el) fs f)
 
 abbrev pub Empty : {Op : Type 0} → List (Entry Op) → Type 0
 Empty ns = ns ≡ []
@@ -372,6 +378,6 @@ pub new_folds : {Config Op Subs : Type 0} (g : Ground Config Op Subs) (first : C
 new_folds g first p = (record { settles = refl; clean = tt; works = tt; fine = tt; disjoint = tt; live = tt; known = λ x b o. refl }, λ _. refl)
 
 pub element_folds : {Config Op Subs : Type 0} (g : Ground Config Op Subs) → Lawful g → ElementFolds g
-element_folds g law p first subs ce inputs =
-    let f = steps_fold g law first p inputs (new_element first subs ce) [] (new_folds g first p) in
+element_folds g law p first subs ce runs =
+    let f = runs_fold g law first p runs (new_element first subs ce) [] (new_folds g first p) in
     record { settled = f.0.settles; clean = f.0.clean; works = f.0.works }

@@ -1,4 +1,4 @@
--- What an element keeps of its events and of its associations, over every list of inputs.
+-- What an element keeps of its events and of its associations, over its whole life.
 use Rattle.std.proofs.Common.{◌≡◌, ℕ, ◌==◌, ◌&&◌, not, Bool, true, false, cond, List, [], ◌∷◌, ◌++◌, Option, Some, None, refl, sym, subst}
 use Rattle.std.specs.FinMap.{contains_key, remove}
 use Rattle.fc_assoc.specs.Associations.{still_heard}
@@ -8,9 +8,10 @@ use Rattle.fc_modes.specs.declared.mode.Mode.{Mode}
 use Rattle.fc_modes.proofs.Outcomes.{kept_is_done}
 use Rattle.fc_headline.specs.Events.{Preserves, Quiet, EventsPass, EventsQuiet}
 use Rattle.fc_headline.specs.OneElement.{Associates}
+use Rattle.fc_headline.specs.Restarts.{with_restarts}
 use Rattle.fc_headline.proofs.Associated.{none_associated, entered_associated, renewed_associated, removed_associated, heard_associated}
 use Rattle.fc_machine.specs.ElementMachine.{Input, Opened, Arrived, Closed, Moment, Step, acts, unclaimed_by, unclaimed, by_verdict, by_mode, on_config, heard_from, with_associations, ended, from_associate, accepts, is_ce, moved_on, watched, is_due, step, steps}
-use Rattle.fc_machine.specs.ElementState.{Element, new_element, ops_at, bares, first_code}
+use Rattle.fc_machine.specs.ElementState.{Element, new_element, restarted, ops_at, bares, first_code}
 use Rattle.fc_machine.specs.Ground.{Ground, Lawful}
 use Rattle.fc_machine.specs.Messages.{Configuring, Message, Setup, Beat, Response, Says, Notice, Accepted, Teardown, Beat_down, Query, Configure}
 use Rattle.fc_machine.specs.Trace.{Fact}
@@ -173,19 +174,24 @@ module _ {Config Op Subs : Type 0} (g : Ground Config Op Subs) (law : Lawful g) 
   step_keeps el s (Closed peer) = s
   step_keeps el s (Moment moment) = let r = watched g (moved_on g el moment) in let h = watched_keeps (moved_on g el moment) s in step_if (is_due g r.0) _ _ h h
 
-  pub steps_keep : (inputs : List (Input Op)) (el : Element Config Op Subs) (fs : List (Fact Op)) → Keeps el → Keeps (steps g p inputs el fs).element
+  steps_keep : (inputs : List (Input Op)) (el : Element Config Op Subs) (fs : List (Fact Op)) → Keeps el → Keeps (steps g p inputs el fs).element
   steps_keep [] el fs s = s
   steps_keep (i ∷ rest) el fs s = let r = step g p el i in steps_keep rest r.element (r.facts ++ fs) (step_keeps el s i)
+
+  -- what resumes has no associations
+  pub runs_keep : (runs : List (List (Input Op))) (el : Element Config Op Subs) (fs : List (Fact Op)) → Keeps el → Keeps (with_restarts g p runs el fs).element
+  runs_keep [] el fs s = s
+  runs_keep (inputs ∷ runs) el fs s = let r = steps g p inputs (restarted el) fs in runs_keep runs r.element r.facts (steps_keep inputs (restarted el) fs (s.0, none_associated g))
 
 -- of any ground, since nothing is asked of it
 anything : {Config Op Subs : Type 0} (g : Ground Config Op Subs) → Preserves g (λ c subs. Unit {0})
 anything g = record { changed = λ c subs ops f. f; set = λ c subs mode ops f. f; ceased = λ c subs f. f }
 
-pub associates : {Config Op Subs : Type 0} (g : Ground Config Op Subs) → Lawful g → (p ce : ℕ) (opening : Config) (subs : Subs) (inputs : List (Input Op)) → Associates g (steps g p inputs (new_element opening subs ce) []).element.associations
-associates g law p ce opening subs inputs = (steps_keep g law (λ c s. Unit {0}) (anything g) p inputs (new_element opening subs ce) [] (tt, none_associated g)).1
+pub associates : {Config Op Subs : Type 0} (g : Ground Config Op Subs) → Lawful g → (p ce : ℕ) (opening : Config) (subs : Subs) (runs : List (List (Input Op))) → Associates g (with_restarts g p runs (new_element opening subs ce) []).element.associations
+associates g law p ce opening subs runs = (runs_keep g law (λ c s. Unit {0}) (anything g) p runs (new_element opening subs ce) [] (tt, none_associated g)).1
 
 pub events_pass : {Config Op Subs : Type 0} (g : Ground Config Op Subs) → Lawful g → EventsPass g
-events_pass g law test k p opening subs ce inputs t = (steps_keep g law (λ c s. test c s ≡ true) k p inputs (new_element opening subs ce) [] (t, none_associated g)).0
+events_pass g law test k p opening subs ce runs t = (runs_keep g law (λ c s. test c s ≡ true) k p runs (new_element opening subs ce) [] (t, none_associated g)).0
 
 pub events_quiet : {Config Op Subs : Type 0} (g : Ground Config Op Subs) → Lawful g → EventsQuiet g
-events_quiet g law k p opening subs ce inputs q = (steps_keep g law (Quiet g) k p inputs (new_element opening subs ce) [] (q, none_associated g)).0
+events_quiet g law k p opening subs ce runs q = (runs_keep g law (Quiet g) k p runs (new_element opening subs ce) [] (q, none_associated g)).0

@@ -5,12 +5,13 @@ use Rattle.fc_assoc.specs.Associations.{still_heard}
 use Rattle.fc_base.specs.Ids.{Txn}
 use Rattle.fc_modes.specs.declared.mode.Mode.{Mode}
 use Rattle.fc_machine.specs.ElementMachine.{Input, Opened, Arrived, Closed, Moment, Step, wants, answer, acts, unclaimed_by, unclaimed, by_verdict, by_mode, on_config, heard_from, with_associations, ended, from_associate, accepts, is_ce, moved_on, watched, is_due, step, steps}
-use Rattle.fc_machine.specs.ElementState.{Entry, Element, new_element, entry, and_rest, written, rest_added, undone_records, without, bares, first_code}
+use Rattle.fc_machine.specs.ElementState.{Entry, Element, new_element, restarted, entry, and_rest, written, rest_added, undone_records, without, bares, first_code}
 use Rattle.fc_machine.specs.Ground.{Ground}
 use Rattle.fc_machine.specs.Messages.{Configuring, Answer, Message, Setup, Beat, Response, Says, Notice, Accepted, Teardown, Beat_down, Query, Configure}
 use Rattle.fc_machine.specs.Trace.{Fact}
 use Rattle.fc_machine.specs.Transactions.{Did, all_get, is_completed, all_in, with_floor, places, scope_at, rest_codes, turned, and_adds, and_completes, starts, continues, floors_by, plain}
 use Rattle.fc_headline.specs.OneElement.{Each, Rested, KeptReply, MessagePasses, Passes, RestsPass}
+use Rattle.fc_headline.specs.Restarts.{with_restarts}
 use Rattle.fc_headline.proofs.Held.{Is, bares_written}
 use Rattle.fc_headline.proofs.Scopes.{never}
 use Rattle.fc_protocol.specs.ElementMachine.{admits}
@@ -340,9 +341,13 @@ module _ {Config Op Subs : Type 0} (g : Ground Config Op Subs) (ce p : ℕ) (tes
   step_sound el s (Closed peer) u = s
   step_sound el s (Moment moment) u = let r = watched g (moved_on g el moment) in let k = watched_sound (moved_on g el moment) s in step_if (is_due g r.0) _ _ k k
 
-  pub steps_sound : (inputs : List (Input Op)) (el : Element Config Op Subs) (fs : List (Fact Op)) → Each (Passes test) inputs → Sound el → Sound (steps g p inputs el fs).element
+  steps_sound : (inputs : List (Input Op)) (el : Element Config Op Subs) (fs : List (Fact Op)) → Each (Passes test) inputs → Sound el → Sound (steps g p inputs el fs).element
   steps_sound [] el fs u s = s
   steps_sound (i ∷ rest) el fs u s = let r = step g p el i in steps_sound rest r.element (r.facts ++ fs) u.1 (step_sound el s i u.0)
+
+  pub runs_sound : (runs : List (List (Input Op))) (el : Element Config Op Subs) (fs : List (Fact Op)) → Each (Each (Passes test)) runs → Sound el → Sound (with_restarts g p runs el fs).element
+  runs_sound [] el fs u s = s
+  runs_sound (inputs ∷ runs) el fs u s = let r = steps g p inputs (restarted el) fs in runs_sound runs r.element r.facts u.1 (steps_sound inputs (restarted el) fs u.0 s)
 
 pub new_sound : {Config Op Subs : Type 0} (g : Ground Config Op Subs) (ce : ℕ) (test : List Op → Bool) (opening : Config) (subs : Subs) → (is_ce g ce ≡ true → is_ce g ce ≡ true) × KeptReply (new_element {Op = Op} opening subs ce) × Each (Held test) []
 new_sound g ce test opening subs = ((λ z. z), (λ a e. cc), tt)
@@ -366,11 +371,15 @@ input_passes (Closed peer) = tt
 input_passes (Moment moment) = tt
 
 -- every input passes what is no test
-pub all_pass : {Op : Type 0} (inputs : List (Input Op)) → Each (Passes (λ ops. true)) inputs
+inputs_pass : {Op : Type 0} (inputs : List (Input Op)) → Each (Passes (λ ops. true)) inputs
+inputs_pass [] = tt
+inputs_pass (i ∷ rest) = (input_passes i, inputs_pass rest)
+
+pub all_pass : {Op : Type 0} (runs : List (List (Input Op))) → Each (Each (Passes (λ ops. true))) runs
 all_pass [] = tt
-all_pass (i ∷ rest) = (input_passes i, all_pass rest)
+all_pass (inputs ∷ runs) = (inputs_pass inputs, all_pass runs)
 
 pub rests_pass : {Config Op Subs : Type 0} (g : Ground Config Op Subs) → RestsPass g
-rests_pass g test p opening subs ce inputs u =
-    let s = steps_sound g ce p test inputs (new_element opening subs ce) [] u (new_sound g ce test opening subs) in
-    (each_held test (steps g p inputs (new_element opening subs ce) []).element.records s.2).1
+rests_pass g test p opening subs ce runs u =
+    let s = runs_sound g ce p test runs (new_element opening subs ce) [] u (new_sound g ce test opening subs) in
+    (each_held test (with_restarts g p runs (new_element opening subs ce) []).element.records s.2).1

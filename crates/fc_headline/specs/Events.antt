@@ -2,7 +2,8 @@
 use Rattle.std.specs.Prelude.{◌≡◌, ℕ, Bool, true, List, []}
 use Rattle.fc_modes.specs.Modes.{folded}
 use Rattle.fc_modes.specs.declared.mode.Mode.{Mode}
-use Rattle.fc_machine.specs.ElementMachine.{Input, steps}
+use Rattle.fc_headline.specs.Restarts.{with_restarts}
+use Rattle.fc_machine.specs.ElementMachine.{Input}
 use Rattle.fc_machine.specs.ElementState.{new_element}
 use Rattle.fc_machine.specs.Ground.{Ground}
 
@@ -20,9 +21,9 @@ Quiet g c subs = g.reports c subs ≡ (subs, [])
 abbrev pub EventsPass : {Config Op Subs : Type 0} → Ground Config Op Subs → Type 0
 EventsPass {Config} {Op} {Subs} g =
     (test : Config → Subs → Bool) → Preserves g (λ c subs. test c subs ≡ true)
-    → (p : ℕ) (opening : Config) (subs : Subs) (ce : ℕ) (inputs : List (Input Op)) → test opening subs ≡ true → let r = steps g p inputs (new_element opening subs ce) [] in test r.element.settled r.element.subs ≡ true
+    → (p : ℕ) (opening : Config) (subs : Subs) (ce : ℕ) (runs : List (List (Input Op))) → test opening subs ≡ true → let r = with_restarts g p runs (new_element opening subs ce) [] in test r.element.settled r.element.subs ≡ true
 
 -- no event is left to tell, where none is at the opening and the ground leaves none
 abbrev pub EventsQuiet : {Config Op Subs : Type 0} → Ground Config Op Subs → Type 0
 EventsQuiet {Config} {Op} {Subs} g =
-    Preserves g (Quiet g) → (p : ℕ) (opening : Config) (subs : Subs) (ce : ℕ) (inputs : List (Input Op)) → Quiet g opening subs → let r = steps g p inputs (new_element opening subs ce) [] in Quiet g r.element.settled r.element.subs
+    Preserves g (Quiet g) → (p : ℕ) (opening : Config) (subs : Subs) (ce : ℕ) (runs : List (List (Input Op))) → Quiet g opening subs → let r = with_restarts g p runs (new_element opening subs ce) [] in Quiet g r.element.settled r.element.subs

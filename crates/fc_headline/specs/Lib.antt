@@ -1,3 +1,4 @@
+pub mod Restarts
 pub mod Folds
 pub mod OneElement
 pub mod Events

@@ -8,6 +8,7 @@ ghost use Rattle.fc_headline.specs.Folds.{ElementFolds};
 ghost use Rattle.fc_headline.specs.Headline.{Headline};
 ghost use Rattle.fc_headline.specs.Instances.{ByInstances, KeepsRefused};
 ghost use Rattle.fc_headline.specs.OneElement.{ElementKeeps, RestsPass};
+ghost use Rattle.fc_headline.specs.Restarts.{OneRun};
 ghost use Rattle.fc_machine.specs.ElementState.{Element};
 ghost use Rattle.fc_machine.specs.Ground.{Commute, Ground, Lawful, Place};
 ghost use Rattle.fc_machine.specs.Instances.{Held, by_instance};
@@ -19,11 +20,12 @@ ghost use Rattle.fc_protocol.specs.WorldSteps.{Network};
 
 use crate::Grounds;
 
-/// Over every list of inputs: the settled configuration is the fold of what was completed, and the working one that of what is held on it; what is completed was prepared before, and each
-/// transaction is settled once at most; scopes rise, those that are held are apart, and there are at most 64 of them and at most 4,096 records, which tell what was settled; what is not held has no rests, and each rest came with a Config
+/// Of one element over its whole life, whatever comes to it and however often it stops and resumes: the settled configuration is the fold of what was completed, and the working one that of what is held on it; what is completed was prepared
+/// before, and each transaction is settled once at most; scopes rise, those that are held are apart, and there are at most 64 of them and at most 4,096 records, which tell what was settled; what is not held has no rests, and each rest came with a Config
 /// that was not too long; at most 64 associations stand, each of a control element; and the kept reply has the correlator of the epoch and the sequence. What is registered for events passes every test that the opening passes and the store
 /// keeps, and no event is left to tell where the store leaves none.
 pub fn element_folds<G: Grounds>()
+    ensures one_run { OneRun G.basis }
     ensures folds { ElementFolds G.basis }
     ensures keeps { ElementKeeps G.basis }
     ensures rests { RestsPass G.basis }

@@ -30,4 +30,4 @@ pub returns-clause-rising : goal.returns-clause-rising
 returns-clause-rising c = rising_law
 
 pub returns-clause-owned : goal.returns-clause-owned
-returns-clause-owned c p ce arrivals = owned_law ce p arrivals
+returns-clause-owned c p ce runs = owned_law ce p runs

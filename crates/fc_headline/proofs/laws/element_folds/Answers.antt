@@ -5,10 +5,10 @@ use Rattle.fc_headline.proofs.Sound.{rests_pass}
 use Rattle.fc_headline.proofs.laws.element_folds.Goals as goal
 
 pub returns-clause-folds : goal.returns-clause-folds
-returns-clause-folds c s p opening subs ce inputs = element_folds c.G.Grounds.basis c.G.Grounds.lawful p opening subs ce inputs
+returns-clause-folds c s p opening subs ce runs = element_folds c.G.Grounds.basis c.G.Grounds.lawful p opening subs ce runs
 
 pub returns-clause-keeps : goal.returns-clause-keeps
-returns-clause-keeps c s p opening subs ce inputs = element_keeps c.G.Grounds.basis c.G.Grounds.lawful p opening subs ce inputs
+returns-clause-keeps c s p opening subs ce runs = element_keeps c.G.Grounds.basis c.G.Grounds.lawful p opening subs ce runs
 
 pub returns-clause-rests : goal.returns-clause-rests
 returns-clause-rests c s = rests_pass c.G.Grounds.basis
