@@ -10,6 +10,7 @@ pub mod Arriving
 pub mod Likes
 pub mod Owned
 pub mod Worlds
+pub mod Lives
 pub mod Sound
 pub mod Instances
 pub mod Associated

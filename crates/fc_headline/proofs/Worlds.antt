@@ -10,7 +10,7 @@ use Rattle.fc_machine.specs.Ground.{Ground, Lawful}
 use Rattle.fc_headline.specs.Headline.{Agree, Ready, Settles, Headline}
 use Rattle.fc_machine.specs.Messages.{Message, Configuring, Configure}
 use Rattle.fc_machine.specs.Trace.{Fact, Of_protocol, Added_at, Plain_at, bare_facts}
-use Rattle.fc_machine.specs.WorldSteps.{Parcel, is_down, Spoke, Masters, World, Step, Open, Deliver, Passes, Restart, Start, Stop, Begin, Change, Give_up, Resend, Forget, first_world, numbered, sender, with_step, to_master, delivers, may_start, called, begun_by, begin_at, change_at, give_up_at, forget_at, resend_at, happens, run, MastersFit}
+use Rattle.fc_machine.specs.WorldSteps.{Parcel, is_down, Spoke, Masters, World, Step, Open, Deliver, Passes, Restart, Start, Stop, Begin, Change, Give_up, Resend, Forget, first_world, numbered, sender, to_master, delivers, may_start, called, begun_by, begin_at, change_at, give_up_at, forget_at, resend_at, happens, run, MastersFit}
 use Rattle.fc_headline.proofs.Folded.{FoldsIn, step_folds, new_folds}
 use Rattle.fc_headline.proofs.Likes.{bare_append, Likes, run_likes, first_likes}
 use Rattle.fc_headline.proofs.Owned.{step_owned, folds_other}
@@ -88,80 +88,62 @@ module _ {Config Op Subs : Type 0} (g : Ground Config Op Subs) where
   fenced p el k source m l =
       unchanged_if el (is_ce g source) _ _ (unchanged_if el (contains_key el.associations source) _ _ (unchanged_if el m.lost _ _ (refl, refl) (unchanged_if el m.astray _ _ (refl, refl) (mode_unchanged p el k source m m.mode l))) (refl, refl)) (refl, refl)
 
-module _ {Config Op Subs M P C : Type 0} (g : Ground Config Op Subs) (law : Lawful g) (ms : Masters Op M P C) (opening : Config) where
-  abbrev W : Type 0
-  W = World Config Op Subs M
+-- Whatever the inputs and the restarts of each element keep, of all elements and all facts, every step of a world keeps
+module _ {Config Op Subs M P C : Type 0} (g : Ground Config Op Subs) (ms : Masters Op M P C) (All : (ℕ → Element Config Op Subs) → List (Fact Op) → Type 0)
+    (step_all : (at : ℕ → Element Config Op Subs) (fs : List (Fact Op)) (q : ℕ) (i : Input Op) → All at fs → All (put at q (step g q (at q) i).element) ((step g q (at q) i).facts ++ fs))
+    (restart_all : (at : ℕ → Element Config Op Subs) (fs : List (Fact Op)) (q : ℕ) → All at fs → All (put at q (restarted (at q))) fs) where
+  abbrev V : Type 0
+  V = World Config Op Subs M
 
-  -- what every element keeps is what it has completed
-  abbrev pub AllFold : W → Type 0
-  AllFold w = (p : ℕ) → FoldsIn g law opening p w.facts (w.at p)
+  abbrev Holds : V → Type 0
+  Holds w = All w.at w.facts
 
-  step_all : (w : W) (q : ℕ) (i : Input Op) → AllFold w → AllFold (with_step g ms w q (step g q (w.at q) i))
-  unfolding put
-  step_all w q i a p = by_test (p == q) refl
-    where
-      r : machine.Step Config Op Subs
-      r = step g q (w.at q) i
-
-      by_test : (b : Bool) → (p == q) ≡ b → FoldsIn g law opening p ((step g q (w.at q) i).facts ++ w.facts) (cond b (step g q (w.at q) i).element (w.at p))
-      by_test true e =
-          subst (λ v. FoldsIn g law opening v ((step g q (w.at q) i).facts ++ w.facts) (step g q (w.at q) i).element) (sym (eqb-true p q e)) (step_folds g law opening q (w.at q) w.facts (a q) i)
-      by_test false e = (folds_other g opening p q (w.at p).floor (w.at p).settled (w.at p).records (step g q (w.at q) i).facts w.facts e (step_owned g q (w.at q) i) (a p).0, (a p).1)
-
-  restart_all : (w : W) (q : ℕ) → AllFold w → AllFold (with_step g ms w q (machine.no_fact (restarted (w.at q)) []))
-  unfolding put
-  restart_all w q a p = by_test (p == q) refl
-    where
-      by_test : (b : Bool) → (p == q) ≡ b → FoldsIn g law opening p w.facts (cond b (restarted (w.at q)) (w.at p))
-      by_test true e = subst (λ v. FoldsIn g law opening v w.facts (restarted (w.at q))) (sym (eqb-true p q e)) (a q)
-      by_test false e = a p
-
-  all_if : (b : Bool) (v w : W) → AllFold v → AllFold w → AllFold (cond b v w)
+  all_if : (b : Bool) (v w : V) → Holds v → Holds w → Holds (cond b v w)
   all_if true v w f h = f
   all_if false v w f h = h
 
-  master_all : (w : W) (p k : ℕ) (m : Message Op) (o : Option M) → AllFold w → AllFold (to_master g ms w p k m o)
+  master_all : (w : V) (p k : ℕ) (m : Message Op) (o : Option M) → Holds w → Holds (to_master g ms w p k m o)
   master_all w p k m None a = a
   master_all w p k m (Some c) a = a
 
-  delivers_all : (w : W) (o : Option (Parcel Op)) → AllFold w → AllFold (delivers g ms w o)
+  delivers_all : (w : V) (o : Option (Parcel Op)) → Holds w → Holds (delivers g ms w o)
   delivers_all w None a = a
   delivers_all w (Some s) a =
-      all_if (is_down s.message) _ _ (step_all w s.element (Arrived s.controller (sender g ms w s.controller) s.message) a) (master_all w s.element s.controller s.message (w.masters s.controller) a)
+      all_if (is_down s.message) _ _ (step_all w.at w.facts s.element (Arrived s.controller (sender g ms w s.controller) s.message) a) (master_all w s.element s.controller s.message (w.masters s.controller) a)
 
-  called_all : (w : W) (k : ℕ) (o : Option Refusal) (r : Spoke Op M) → AllFold w → AllFold (called g ms w k o r)
+  called_all : (w : V) (k : ℕ) (o : Option Refusal) (r : Spoke Op M) → Holds w → Holds (called g ms w k o r)
   called_all w k (Some z) r a = a
   called_all w k None r a = a
 
-  begun_all : (w : W) (k : ℕ) (plan : P) (m : M) (o : Option Refusal) (r : Spoke Op M) → AllFold w → AllFold (begun_by g ms w k plan m o r)
+  begun_all : (w : V) (k : ℕ) (plan : P) (m : M) (o : Option Refusal) (r : Spoke Op M) → Holds w → Holds (begun_by g ms w k plan m o r)
   begun_all w k plan m (Some z) r a = a
   begun_all w k plan m None r a = a
 
-  begin_all : (w : W) (k : ℕ) (plan : P) (o : Option M) → AllFold w → AllFold (begin_at g ms w k plan o)
+  begin_all : (w : V) (k : ℕ) (plan : P) (o : Option M) → Holds w → Holds (begin_at g ms w k plan o)
   begin_all w k plan None a = a
   begin_all w k plan (Some m) a = begun_all w k plan m (ms.begins k m plan).refusal (ms.begins k m plan).spoke a
 
-  change_all : (w : W) (k p : ℕ) (c : C) (o : Option M) → AllFold w → AllFold (change_at g ms w k p c o)
+  change_all : (w : V) (k p : ℕ) (c : C) (o : Option M) → Holds w → Holds (change_at g ms w k p c o)
   change_all w k p c None a = a
   change_all w k p c (Some m) a = called_all w k (ms.changes k m p c).refusal (ms.changes k m p c).spoke a
 
-  give_up_all : (w : W) (k : ℕ) (x : Txn) (o : Option M) → AllFold w → AllFold (give_up_at g ms w k x o)
+  give_up_all : (w : V) (k : ℕ) (x : Txn) (o : Option M) → Holds w → Holds (give_up_at g ms w k x o)
   give_up_all w k x None a = a
   give_up_all w k x (Some m) a = called_all w k (ms.gives_up k m x).refusal (ms.gives_up k m x).spoke a
 
-  forget_all : (w : W) (k : ℕ) (o : Option M) → AllFold w → AllFold (forget_at g ms w k o)
+  forget_all : (w : V) (k : ℕ) (o : Option M) → Holds w → Holds (forget_at g ms w k o)
   forget_all w k None a = a
   forget_all w k (Some m) a = called_all w k (ms.forgets k m).refusal (ms.forgets k m).spoke a
 
-  resend_all : (w : W) (k p : ℕ) (o : Option M) → AllFold w → AllFold (resend_at g ms w k p o)
+  resend_all : (w : V) (k p : ℕ) (o : Option M) → Holds w → Holds (resend_at g ms w k p o)
   resend_all w k p None a = a
   resend_all w k p (Some m) a = a
 
-  happens_all : (w : W) (s : Step P C) → AllFold w → AllFold (happens g ms w s)
-  happens_all w (Open p k) a = all_if _ _ _ (step_all w p (Opened k) a) a
+  happens_all : (w : V) (s : Step P C) → Holds w → Holds (happens g ms w s)
+  happens_all w (Open p k) a = all_if _ _ _ (step_all w.at w.facts p (Opened k) a) a
   happens_all w (Deliver i) a = delivers_all w (numbered w.sent i) a
-  happens_all w (Passes p t) a = all_if _ _ _ (step_all w p (Moment t) a) a
-  happens_all w (Restart p) a = all_if _ _ _ (restart_all w p a) a
+  happens_all w (Passes p t) a = all_if _ _ _ (step_all w.at w.facts p (Moment t) a) a
+  happens_all w (Restart p) a = all_if _ _ _ (restart_all w.at w.facts p a) a
   happens_all w (Start k r) a = all_if (may_start g ms w k r) _ _ a a
   happens_all w (Stop k) a = a
   happens_all w (Begin k plan) a = begin_all w k plan (w.masters k) a
@@ -170,9 +152,39 @@ module _ {Config Op Subs M P C : Type 0} (g : Ground Config Op Subs) (law : Lawf
   happens_all w (Resend k p) a = resend_all w k p (w.masters k) a
   happens_all w (Forget k) a = forget_all w k (w.masters k) a
 
+  pub run_keeps : (ss : List (Step P C)) (w : V) → Holds w → Holds (run g ms ss w)
+  run_keeps [] w a = a
+  run_keeps (s ∷ ss) w a = run_keeps ss (happens g ms w s) (happens_all w s a)
+
+module _ {Config Op Subs M P C : Type 0} (g : Ground Config Op Subs) (law : Lawful g) (ms : Masters Op M P C) (opening : Config) where
+  abbrev W : Type 0
+  W = World Config Op Subs M
+
+  abbrev Fold : (ℕ → Element Config Op Subs) → List (Fact Op) → Type 0
+  Fold at fs = (p : ℕ) → FoldsIn g law opening p fs (at p)
+
+  -- what every element keeps is what it has completed
+  abbrev pub AllFold : W → Type 0
+  AllFold w = Fold w.at w.facts
+
+  fold_step : (at : ℕ → Element Config Op Subs) (fs : List (Fact Op)) (q : ℕ) (i : Input Op) → Fold at fs → Fold (put at q (step g q (at q) i).element) ((step g q (at q) i).facts ++ fs)
+  unfolding put
+  fold_step at fs q i a p = by_test (p == q) refl
+    where
+      by_test : (b : Bool) → (p == q) ≡ b → FoldsIn g law opening p ((step g q (at q) i).facts ++ fs) (cond b (step g q (at q) i).element (at p))
+      by_test true e = subst (λ v. FoldsIn g law opening v ((step g q (at q) i).facts ++ fs) (step g q (at q) i).element) (sym (eqb-true p q e)) (step_folds g law opening q (at q) fs (a q) i)
+      by_test false e = (folds_other g opening p q (at p).floor (at p).settled (at p).records (step g q (at q) i).facts fs e (step_owned g q (at q) i) (a p).0, (a p).1)
+
+  fold_restart : (at : ℕ → Element Config Op Subs) (fs : List (Fact Op)) (q : ℕ) → Fold at fs → Fold (put at q (restarted (at q))) fs
+  unfolding put
+  fold_restart at fs q a p = by_test (p == q) refl
+    where
+      by_test : (b : Bool) → (p == q) ≡ b → FoldsIn g law opening p fs (cond b (restarted (at q)) (at p))
+      by_test true e = subst (λ v. FoldsIn g law opening v fs (restarted (at q))) (sym (eqb-true p q e)) (a q)
+      by_test false e = a p
+
   pub run_all : (ss : List (Step P C)) (w : W) → AllFold w → AllFold (run g ms ss w)
-  run_all [] w a = a
-  run_all (s ∷ ss) w a = run_all ss (happens g ms w s) (happens_all w s a)
+  run_all ss w a = run_keeps g ms Fold fold_step fold_restart ss w a
 
   module _ (Good : M → Type 0) (fit : MastersFit ms Good) (subs : Subs) (n : Network) (ss : List (Step P C)) where
     abbrev pub then : W

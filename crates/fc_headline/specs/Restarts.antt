@@ -14,3 +14,7 @@ with_restarts g p (inputs ∷ runs) el fs = let r = steps g p inputs (restarted 
 abbrev pub OneRun : {Config Op Subs : Type 0} → Ground Config Op Subs → Type 0
 OneRun {Config} {Op} {Subs} g =
     (p : ℕ) (opening : Config) (subs : Subs) (ce : ℕ) (inputs : List (Input Op)) → let r = with_restarts g p (inputs ∷ []) (new_element opening subs ce) [] in let s = steps g p inputs (new_element opening subs ce) [] in (r.element ≡ s.element) × (r.facts ≡ s.facts)
+
+-- an element that was this at first has become that in some runs
+abbrev pub Lived : {Config Op Subs : Type 0} → Ground Config Op Subs → ℕ → Element Config Op Subs → Element Config Op Subs → Type 0
+Lived {Config} {Op} {Subs} g p first el = (runs : List (List (Input Op))) × ((with_restarts g p runs first []).element ≡ el)

@@ -8,8 +8,8 @@ ghost use Rattle.fc_headline.specs.Folds.{ElementFolds};
 ghost use Rattle.fc_headline.specs.Headline.{Headline};
 ghost use Rattle.fc_headline.specs.Instances.{ByInstances, KeepsRefused};
 ghost use Rattle.fc_headline.specs.OneElement.{ElementKeeps, RestsPass};
-ghost use Rattle.fc_headline.specs.Restarts.{OneRun};
-ghost use Rattle.fc_machine.specs.ElementState.{Element};
+ghost use Rattle.fc_headline.specs.Restarts.{Lived, OneRun};
+ghost use Rattle.fc_machine.specs.ElementState.{Element, new_element};
 ghost use Rattle.fc_machine.specs.Ground.{Commute, Ground, Lawful, Place};
 ghost use Rattle.fc_machine.specs.Instances.{Held, by_instance};
 ghost use Rattle.fc_machine.specs.Messages.{Configuring, Message};
@@ -34,9 +34,11 @@ pub fn element_folds<G: Grounds>()
 {}
 
 /// At every moment of every script, whatever is lost, repeated or reordered, and whichever controllers and elements stop and return: no two elements settle one transaction differently; each that completes one had every participant prepared; each
-/// settled configuration is the fold of what its element has completed; a Config of a life below an element's epoch changes nothing there; and what a master counts as settled was settled so at every participant.
+/// settled configuration is the fold of what its element has completed; a Config of a life below an element's epoch changes nothing there; and what a master counts as settled was settled so at every participant. Each
+/// element has become what it is in some runs, so what is said of the state of one element by itself holds of it.
 pub fn headline<G: Grounds>()
     ensures whole { (opening : G.Config) (subs : G.Subs) (n : Network) (steps : List (Step G.Plan G.Change)) → Headline G.basis G.masters opening (run G.basis G.masters steps (first_world opening subs n)) }
+    ensures lives { (opening : G.Config) (subs : G.Subs) (n : Network) (steps : List (Step G.Plan G.Change)) (p : ℕ) → Lived G.basis p (new_element opening subs (n.first_ce p)) ((run G.basis G.masters steps (first_world opening subs n)).at p) }
     ensures moments { (opening : G.Config) (subs : G.Subs) (n : Network) (steps : List (Step G.Plan G.Change)) (k : ℕ) → Headline G.basis G.masters opening (run G.basis G.masters (take k steps) (first_world opening subs n)) }
 {}
 
