@@ -18,9 +18,8 @@ use Rattle.fc_headline.proofs.Scopes.{Fine}
 use Rattle.fc_headline.proofs.Sound.{each_held, runs_sound, new_sound, all_pass}
 use Rattle.fc_headline.proofs.Worlds.{in_bare, in_whole}
 use Rattle.fc_protocol.specs.ElementMachine as protocol
-use Rattle.fc_protocol.specs.ElementMachine.{ElementState, Circumstance, Heard, only_says, hears}
+use Rattle.fc_protocol.specs.ElementMachine.{ElementState, Circumstance, Heard, hears}
 use Rattle.fc_protocol.specs.Messages as said
-use Rattle.fc_protocol.specs.Messages.{Request}
 use Rattle.fc_protocol.specs.OneElement.{Arrival, hears_all, Distinct, Limited, ScopesApart, FewParticipants, FloorClear, Owned, RecordsTell}
 use Rattle.fc_agreement.proofs.Ownership.{owned_law}
 use Rattle.fc_protocol.specs.Trace as trace

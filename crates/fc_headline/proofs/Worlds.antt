@@ -4,7 +4,7 @@ use Rattle.std.specs.FinMap.{contains_key}
 use Rattle.fc_base.specs.Ids.{Txn}
 use Rattle.fc_modes.specs.declared.mode.Mode.{Mode}
 use Rattle.fc_machine.specs.ElementMachine as machine
-use Rattle.fc_machine.specs.ElementMachine.{Input, Opened, Arrived, Moment, by_mode, by_verdict, on_config, is_ce, step}
+use Rattle.fc_machine.specs.ElementMachine.{Input, Opened, Arrived, Moment, by_mode, by_verdict, is_ce, step}
 use Rattle.fc_machine.specs.ElementState.{Element, restarted}
 use Rattle.fc_machine.specs.Ground.{Ground, Lawful}
 use Rattle.fc_headline.specs.Headline.{Agree, Ready, Settles, Headline}
