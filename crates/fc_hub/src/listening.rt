@@ -38,7 +38,7 @@ pub struct Listening<R: Net> {
     silent: u32,
     // the connection that comes next, where it was taken before the newest peer had closed
     next: Option<R::Stream>,
-    // since when there is no descriptor for a connection
+    // since when there is no descriptor for a connection, with no bytes read and no connection ended since
     lacking: Option<u64>,
     // how many connections were told, which is the newest peer
     newest: u32,
@@ -181,6 +181,7 @@ impl<R: Net + Clock + Drop> Listening<R> {
         match read_piece(self.alloc, stream)? {
             Found::Piece(bytes) => {
                 self.silent = 0;
+                self.lacking = None;
                 Ok(HubEvent::Bytes(self.newest, bytes))
             }
             Found::Silence => self.wait(),
@@ -207,6 +208,7 @@ impl<R: Net + Clock + Drop> Listening<R> {
         ensures { IsEvent result }
     {
         self.stream = None;
+        self.lacking = None;
         self.closed = self.closed.saturating_add(1);
         HubEvent::Closed(self.newest)
     }

@@ -24,7 +24,8 @@ use std::time::Clock;
 /// for a second, until it closes too, what it sends is read and dropped.
 ///
 /// A fault of the hub, which is counted, is that the address can't be bound, that it is no longer listened, that the clock
-/// can't be read, and that for ten seconds there is no descriptor for a connection.
+/// can't be read, and that for ten seconds there is no descriptor for a connection while no bytes come and no connection
+/// ends.
 #[derive(Drop)]
 pub struct TcpHub<R: Net> {
     listening: Listening<R>,
