@@ -21,7 +21,7 @@ use std::time::Clock;
 /// served. Whatever else goes wrong with a connection, as that the peer resets it or that the network gives it up, has
 /// closed it. Bytes that are sent to a peer that is not connected, or that has closed, are lost; a peer that does not take
 /// all the bytes of one sending within ten seconds is disconnected. A peer that is closed still gets what was sent to it:
-/// for a second, until it closes too, what it sends is read and dropped.
+/// until it closes too, for a second and at most nearly two, what it sends is read and dropped.
 ///
 /// A fault of the hub, which is counted, is that the address can't be bound, that it is no longer listened, that the clock
 /// can't be read, and that for ten seconds there is no descriptor for a connection while no bytes come and no connection
