@@ -7,6 +7,8 @@ mod associations;
 #[cfg(test)]
 mod commands;
 #[cfg(test)]
+mod copies;
+#[cfg(test)]
 mod elements;
 #[cfg(test)]
 mod fence;

@@ -44,7 +44,7 @@ impl Write for Broken {
     }
 
     fn flush(&mut self) -> io::Result<()> {
-        Ok(())
+        Err(io::Error::from_raw_os_error(self.0))
     }
 }
 
@@ -64,6 +64,10 @@ impl Write for Slow {
     }
 
     fn flush(&mut self) -> io::Result<()> {
+        self.waits = !self.waits;
+        if self.waits {
+            return Err(io::Error::from(ErrorKind::WouldBlock));
+        }
         Ok(())
     }
 }
@@ -88,10 +92,12 @@ fn ends_that_do_not_block_are_waited_for(rt: HostRuntime) -> Result<(), Fail> {
     for _ in 0..3u32 {
         assert_eq!(rt; patient.read(&mut bytes)?, 1);
         assert_eq!(rt; patient.write(&[1, 2])?, 1);
+        assert!(rt; patient.flush().is_ok());
     }
     assert_eq!(rt; bytes, [7, 0, 0]);
     let mut broken = Patient::new(&clock, Broken(32));
     assert!(rt; broken.read(&mut bytes).is_err());
     assert!(rt; broken.write(&bytes).is_err());
+    assert!(rt; broken.flush().is_err());
     Ok(())
 }
