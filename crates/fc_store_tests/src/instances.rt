@@ -3,7 +3,7 @@ use crate::types::{code, keys, pair};
 use fc_base::{Code, List, Memory, OpFault};
 use fc_path::Step;
 use fc_rows::Rows;
-use fc_store::{EntryPath, Instance, Slot};
+use fc_store::{EntryPath, Instance, Scopes, Slot};
 use fc_types::Ty;
 use fc_value::Value;
 use std::alloc::Global;
@@ -146,5 +146,45 @@ fn a_full_array_goes_back_many_times(rt: HostRuntime) -> Result<(), Fail> {
     let entry = entry(alloc)?;
     assert_eq!(rt; rounds(alloc, &mut full, &entry)?, ROUNDS);
     assert!(rt; stands(alloc, &full, 7)?);
+    Ok(())
+}
+
+#[test]
+fn a_component_is_put_as_a_whole(rt: HostRuntime) -> Result<(), Fail> {
+    let alloc = rt.alloc();
+    let mut one = instance(alloc, 4)?;
+    one.mark()?;
+    one.put_whole(0, Slot::Entries(rows(alloc, 1)?))?;
+    assert!(rt; one.entry(0, 0).is_some() && one.entry(0, 3).is_none());
+    one.rollback();
+    assert!(rt; stands(alloc, &one, 3)?);
+    one.put_whole(0, Slot::Absent)?;
+    assert!(rt; one.entry(0, 0).is_none());
+    Ok(())
+}
+
+// As many instances as an element may have, each with one entry, and the places of every other one.
+fn many(alloc: Global) -> Result<(Scopes, Vec<usize>), Memory> {
+    let mut instances = Vec::new(alloc);
+    let mut places = Vec::new(alloc);
+    for place in 0..4_096usize {
+        instances.push(instance(alloc, 1)?)?;
+        if place % 2 == 0 {
+            places.push(place)?;
+        }
+    }
+    Ok((Scopes::of(instances), places))
+}
+
+#[test]
+fn marks_stand_over_many_instances(rt: HostRuntime) -> Result<(), Fail> {
+    let alloc = rt.alloc();
+    let (mut scopes, places) = many(alloc)?;
+    scopes.mark_for(places.as_slice())?;
+    scopes.mark_for(places.as_slice())?;
+    scopes.release(places.as_slice());
+    scopes.rollback(places.as_slice());
+    let last = scopes.get(4_094).ok_or("an instance")?;
+    assert!(rt; stands(alloc, last, 0)?);
     Ok(())
 }

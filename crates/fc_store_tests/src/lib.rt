@@ -9,6 +9,8 @@ mod instances;
 #[cfg(test)]
 mod keys;
 #[cfg(test)]
+mod spots;
+#[cfg(test)]
 mod trees;
 #[cfg(test)]
 mod types;
