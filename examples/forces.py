@@ -1,4 +1,3 @@
-#!/usr/bin/env python3
 """The messages of `forces` and the values of its libraries, in Python (3.9 or newer) and its standard library alone.
 
 As a filter, from standard input to standard output:
