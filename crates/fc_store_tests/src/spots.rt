@@ -1,4 +1,6 @@
 // Spots lead to the components of the largest library, or to the first cause against that.
+ghost use Rattle.std.specs.Prelude.{◌<◌};
+
 use crate::types::code;
 use Purpose::{Look, Read, Write};
 use fc_base::{Code, List, Memory, Octets, OpFault, Text};
