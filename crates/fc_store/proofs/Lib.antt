@@ -1,5 +1,1 @@
-pub mod Bridge
-pub mod Changing
-pub mod Rowing
 pub mod Scoped
-pub mod Undoing

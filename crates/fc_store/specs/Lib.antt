@@ -1,4 +1,2 @@
-pub mod Components
-pub mod Histories
 pub mod Scopes
 pub mod Spots

@@ -1,14 +1,10 @@
-//! The components of the instances of an element.
+//! The configuration of an element: the components of all its instances, found by spots, with marks over some instances.
 #![tactic(auto)]
 
-mod components;
-mod instance;
 mod laws;
 mod scopes;
 mod spots;
 
-pub use components::EntryPath;
-pub use instance::{Instance, Inverse, Row, Slot};
-pub use laws::{array_changes_by_its_entries, instances_apart};
+pub use laws::instances_apart;
 pub use scopes::Scopes;
 pub use spots::{Purpose, resolve};

@@ -3,9 +3,10 @@ ghost use Rattle.std.specs.Prelude.{◌≡◌, ◌<◌, length, IfOk};
 
 use crate::types::{code, keys, pair};
 use fc_base::{Code, List, Memory, OpFault};
+use fc_instance::{EntryPath, Instance, Slot};
 use fc_path::Step;
 use fc_rows::Rows;
-use fc_store::{EntryPath, Instance, Scopes, Slot};
+use fc_store::Scopes;
 use fc_types::Ty;
 use fc_value::Value;
 use std::alloc::Global;

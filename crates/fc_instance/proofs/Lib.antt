@@ -1,0 +1,4 @@
+pub mod Bridge
+pub mod Changing
+pub mod Rowing
+pub mod Undoing
