@@ -1,0 +1,3 @@
+pub mod BuiltIns
+pub mod Kinds
+pub mod LiveValues
