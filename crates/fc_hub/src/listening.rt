@@ -1,5 +1,6 @@
 // The connections of the hub that listens, one at a time.
-ghost use Rattle.std.specs.Prelude.{IfOk};
+ghost use Rattle.std.specs.Prelude.{◌≡◌, ◌≢◌, IfOk, Ok, OnErr};
+ghost use Rattle.fc_hub.specs.Connections.{IsOfNewest};
 ghost use Rattle.fc_hub.specs.Hubs.{IsEvent};
 
 use crate::HubEvent;
@@ -54,7 +55,11 @@ impl<R: Net + Clock + Drop> Listening<R> {
         rt: R,
         address: &str,
         connections: u32,
-    ) -> Result<Listening<R>, Memory> {
+    ) -> Result<Listening<R>, Memory>
+        ensures newest { IfOk result (λ listening. listening.newest ≡ 0) }
+        ensures closed { IfOk result (λ listening. listening.closed ≡ 0) }
+        ensures connections { IfOk result (λ listening. listening.connections ≡ connections) }
+    {
         let address = Text::from_str(alloc, address)?;
         Ok(Listening {
             rt,
@@ -74,7 +79,9 @@ impl<R: Net + Clock + Drop> Listening<R> {
 
     /// The next event. Before anything else it is the moment, where the last one was told a second ago.
     pub fn next(&mut self) -> Result<HubEvent, Trouble>
-        ensures { IfOk result IsEvent }
+        ensures event { IfOk result IsEvent }
+        ensures peer { IfOk result (IsOfNewest self.old.newest self.new.newest) }
+        ensures err { OnErr result (self.new.newest ≡ self.old.newest) }
     {
         if self.listener.is_none() {
             self.bind()?;
@@ -94,7 +101,9 @@ impl<R: Net + Clock + Drop> Listening<R> {
     }
 
     // Binds the address, and asks for no waiting at it.
-    fn bind(&mut self) -> Result<(), Trouble> {
+    fn bind(&mut self) -> Result<(), Trouble>
+        ensures { self.new.newest ≡ self.old.newest }
+    {
         let listener = TcpListener::bind(&self.rt, self.address.as_str()).map_err(failed)?;
         listener.set_nonblocking(true).map_err(failed)?;
         self.listener = Some(listener);
@@ -103,7 +112,9 @@ impl<R: Net + Clock + Drop> Listening<R> {
 
     // The moment, which never goes back.
     fn moment(&mut self) -> Result<HubEvent, Trouble>
-        ensures { IfOk result IsEvent }
+        ensures event { IfOk result IsEvent }
+        ensures peer { IfOk result (IsOfNewest self.old.newest self.new.newest) }
+        ensures err { OnErr result (self.new.newest ≡ self.old.newest) }
     {
         self.latest = self.latest.max(now(&self.rt)?);
         Ok(HubEvent::Moment(self.latest))
@@ -111,7 +122,9 @@ impl<R: Net + Clock + Drop> Listening<R> {
 
     // Waits for the next connection, for a second at most.
     fn accept(&mut self) -> Result<HubEvent, Trouble>
-        ensures { IfOk result IsEvent }
+        ensures event { IfOk result IsEvent }
+        ensures peer { IfOk result (IsOfNewest self.old.newest self.new.newest) }
+        ensures err { OnErr result (self.new.newest ≡ self.old.newest) }
     {
         for _ in 0..LOOKS {
             self.look()?;
@@ -125,7 +138,8 @@ impl<R: Net + Clock + Drop> Listening<R> {
 
     // Begins with the connection that comes next.
     fn open(&mut self) -> HubEvent
-        ensures { IsEvent result }
+        ensures event { IsEvent result }
+        ensures peer { IsOfNewest self.old.newest self.new.newest result }
     {
         self.stream = self.next.take();
         self.silent = 0;
@@ -134,7 +148,9 @@ impl<R: Net + Clock + Drop> Listening<R> {
     }
 
     // Takes a connection that waits, if there is one and none was taken yet.
-    fn look(&mut self) -> Result<(), Trouble> {
+    fn look(&mut self) -> Result<(), Trouble>
+        ensures { self.new.newest ≡ self.old.newest }
+    {
         if self.next.is_some() {
             return Ok(());
         }
@@ -154,7 +170,9 @@ impl<R: Net + Clock + Drop> Listening<R> {
     }
 
     // No connection was taken. There may be no descriptor for a while: others give theirs back.
-    fn miss(&mut self, why: Missed) -> Result<(), Trouble> {
+    fn miss(&mut self, why: Missed) -> Result<(), Trouble>
+        ensures { self.new.newest ≡ self.old.newest }
+    {
         if why == Missed::NotListening {
             return Err(Trouble::Failed);
         }
@@ -173,7 +191,9 @@ impl<R: Net + Clock + Drop> Listening<R> {
 
     // Waits for bytes of the connection, for a second at most.
     fn read(&mut self) -> Result<HubEvent, Trouble>
-        ensures { IfOk result IsEvent }
+        ensures event { IfOk result IsEvent }
+        ensures peer { IfOk result (IsOfNewest self.old.newest self.new.newest) }
+        ensures err { OnErr result (self.new.newest ≡ self.old.newest) }
     {
         let Some(stream) = &mut self.stream else {
             return Err(Trouble::Failed);
@@ -191,7 +211,9 @@ impl<R: Net + Clock + Drop> Listening<R> {
 
     // Nothing came for a second. A connection that was silent for two is let go where another one waits and is to be served.
     fn wait(&mut self) -> Result<HubEvent, Trouble>
-        ensures { IfOk result IsEvent }
+        ensures event { IfOk result IsEvent }
+        ensures peer { IfOk result (IsOfNewest self.old.newest self.new.newest) }
+        ensures err { OnErr result (self.new.newest ≡ self.old.newest) }
     {
         self.silent = self.silent.saturating_add(1);
         if self.silent >= SILENCES && self.newest < self.connections {
@@ -205,7 +227,9 @@ impl<R: Net + Clock + Drop> Listening<R> {
 
     // Lets the connection go.
     fn hang_up(&mut self) -> HubEvent
-        ensures { IsEvent result }
+        ensures event { IsEvent result }
+        ensures peer { IsOfNewest self.old.newest self.new.newest result }
+        ensures newest { self.new.newest ≡ self.old.newest }
     {
         self.stream = None;
         self.lacking = None;
@@ -215,7 +239,12 @@ impl<R: Net + Clock + Drop> Listening<R> {
 
     /// Sends to the peer, if it is connected. A peer that does not take all of it in time is disconnected, and the next
     /// read tells that it has closed.
-    pub fn send(&mut self, peer: u32, bytes: &[u8]) -> Result<(), Trouble> {
+    pub fn send(&mut self, peer: u32, bytes: &[u8]) -> Result<(), Trouble>
+        ensures other { peer ≢ self.old.newest → self.new ≡ self.old }
+        ensures passed { peer ≢ self.old.newest → result ≡ Ok tt }
+        ensures newest { self.new.newest ≡ self.old.newest }
+        ensures closed { self.new.closed ≡ self.old.closed }
+    {
         if peer != self.newest {
             return Ok(());
         }
@@ -229,7 +258,10 @@ impl<R: Net + Clock + Drop> Listening<R> {
     }
 
     /// Closes the peer, if it is connected. It still gets what was sent to it.
-    pub fn close(&mut self, peer: u32) {
+    pub fn close(&mut self, peer: u32)
+        ensures other { peer ≢ self.old.newest → self.new ≡ self.old }
+        ensures newest { self.new.newest ≡ self.old.newest }
+    {
         if peer != self.newest {
             return;
         }
