@@ -334,12 +334,12 @@ long_enough n e = grind (arith, nat_tests)
 is_less : (m n : ℕ) → nat_lt m n ≡ true → m < n
 is_less m n e = grind (arith, nat_tests)
 
-header_low : (bytes : List ℕ) (told : Refusal) → first_broken (header_rules bytes) ≡ Some told → told.place ≤ length bytes
+pub header_low : (bytes : List ℕ) (told : Refusal) → first_broken (header_rules bytes) ≡ Some told → told.place ≤ length bytes
 header_low bytes told e =
     rules_low (length bytes) (4 * u16_at bytes 2) (nat_lt (length bytes) 24) (not (slice_index bytes 0 / 16 == 1)) (nat_lt (u16_at bytes 2) 6) (nat_lt (length bytes) (4 * u16_at bytes 2)) (nat_lt (4 * u16_at bytes 2) (length bytes))
     told (long_enough (length bytes)) (is_less (4 * u16_at bytes 2) (length bytes)) e
 
-types_low : (a b : Bool) (told : Refusal) → first_broken (rule a 1 NotBuilt ∷ rule b 1 UnknownType ∷ []) ≡ Some told → told.place ≡ 1
+pub types_low : (a b : Bool) (told : Refusal) → first_broken (rule a 1 NotBuilt ∷ rule b 1 UnknownType ∷ []) ≡ Some told → told.place ≡ 1
 types_low true b told e = same_place _ told e
 types_low false true told e = same_place _ told e
 types_low false false told e = cc

@@ -303,9 +303,9 @@ gives_proper bytes (Ok m) fine h = proper m bytes fine (whole bytes m fine h)
 gives_proper bytes (Err e) fine h = tt
 
 pub gives_only : (bytes : List ℕ) (r : Result Message MsgFault) → IfOk r (λ m. message_in bytes ≡ Some m) → IfErr r (λ fault. Refuses (fault_of bytes) fault)
-    → (m : Message) → Spells m bytes → Gives m r
-gives_only bytes (Ok n) h k m is = some_same n m (sym h ∙ read m bytes is)
-gives_only bytes (Err (At told)) h k m is = never_both bytes m told is k
+    → (m : Message) → Spells m bytes → Gives r (Ok m)
+gives_only bytes (Ok n) h k m is = ap Ok (some_same m n (sym (read m bytes is) ∙ h))
+gives_only bytes (Err (At told)) h k m is = absurd (never_both bytes m told is k)
 gives_only bytes (Err Memory) h k m is = tt
 
 pub gives_exact : (bytes : List ℕ) (r : Result Message MsgFault) → IfOk r (λ m. message_in bytes ≡ Some m) → IfErr r (λ fault. Refuses (fault_of bytes) fault) → Tells (message_in bytes) r

@@ -8,6 +8,7 @@ use Rattle.fc_wire.specs.declared.header.WireFault.{WireFault}
 use Rattle.fc_path.specs.Visits.{Visit, visit, unless, only, past, nothing, place_of, walk_in, select_visits}
 use Rattle.fc_path.specs.declared.fault.PathFault.TheVariants as faults
 use Rattle.fc_msg.specs.Faults.{Rule, header_rules, told_of, type_rules}
+use Rattle.fc_msg.specs.MessageTypes as types
 use Rattle.fc_msg.specs.declared.fault.Refusal.{Refusal}
 
 -- the test of an ASResult or ASTreason
@@ -27,10 +28,10 @@ end_visit enough end (Some fault) = visit (place_of fault) (Some (faults.Wire fa
 -- the tests of a body of a type, whose TLVs go on to an end
 abbrev pub body_visits : ℕ → ℕ → List TlvItem → Option WireFault → List Visit
 body_visits kind end tlvs fault =
-    if kind == 15 then walk_in nothing past end tlvs fault
-    else (if kind == 17 then walk_in number_visits (only 16) end tlvs fault
-    else (if kind == 2 then walk_in number_visits (only 17) end tlvs fault
-    else flat_map (select_visits kind) tlvs ++ end_visit (are_enough (kind == 1) tlvs) end fault ∷ []))
+    if kind == types.heartbeat then walk_in nothing past end tlvs fault
+    else (if kind == types.setup_response then walk_in number_visits (only types.as_result) end tlvs fault
+    else (if kind == types.teardown then walk_in number_visits (only types.as_reason) end tlvs fault
+    else flat_map (select_visits kind) tlvs ++ end_visit (are_enough (kind == types.setup) tlvs) end fault ∷ []))
 
 -- what a rule tells if it is broken, and what a test tells if it fails
 abbrev pub told_if : Rule → Option Refusal

@@ -1,5 +1,6 @@
 -- What an answer of decoding is to a message, and to a refusal. This profile's own.
-use Rattle.std.specs.Prelude.{◌≡◌, ◌≤◌, ⊤, ℕ, Option, Some, None, Result, Ok, Err}
+use Rattle.std.specs.Prelude.{◌≡◌, ◌≤◌, ⊤, ℕ, Option, Some, None, IfSome, Result, Ok, Err}
+use Rattle.fc_base.specs.Answers as answers
 use Rattle.fc_path.specs.declared.fault.PathFault.{PathFault}
 use Rattle.fc_msg.specs.Faults.{told_of}
 use Rattle.fc_msg.specs.declared.message.Message.{Message}
@@ -7,16 +8,18 @@ use Rattle.fc_msg.specs.declared.fault.MsgFault.{MsgFault}
 use Rattle.fc_msg.specs.declared.fault.MsgFault.TheVariants.{At, Memory}
 use Rattle.fc_msg.specs.declared.fault.Refusal.{Refusal}
 
--- the answer is the message, unless there was no memory
-abbrev pub Gives : Message → Result Message MsgFault → Type 0
-Gives m (Ok other) = other ≡ m
-Gives m (Err (At refusal)) = ⊥
-Gives m (Err Memory) = ⊤
+-- the rule that is broken by what a fault tells: none where it tells that it was out of memory
+abbrev pub told : MsgFault → Option Refusal
+told (At refusal) = Some refusal
+told Memory = None
 
--- the fault tells the rule that is broken, unless there was no memory
+-- the answer is the message or the refusal that is meant, unless it is out of memory
+abbrev pub Gives : Result Message MsgFault → Result Message Refusal → Type 0
+Gives = answers.Gives (λ m. m) told
+
+-- the fault tells the rule that is broken, unless it is out of memory
 abbrev pub Refuses : Option Refusal → MsgFault → Type 0
-Refuses broken (At refusal) = broken ≡ Some refusal
-Refuses broken Memory = ⊤
+Refuses broken fault = IfSome (told fault) (λ refusal. broken ≡ Some refusal)
 
 -- the place that is told is that of one of so many bytes, or their end
 abbrev pub IsWithin : ℕ → MsgFault → Type 0

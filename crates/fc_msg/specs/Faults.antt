@@ -9,6 +9,7 @@ use Rattle.fc_wire.specs.declared.header.WireFault.TheVariants as wire
 use Rattle.fc_path.specs.declared.fault.PathFault.{PathFault}
 use Rattle.fc_path.specs.declared.fault.PathFault.TheVariants as path
 use Rattle.fc_msg.specs.Bodies.{body_at}
+use Rattle.fc_msg.specs.MessageTypes as types
 use Rattle.fc_msg.specs.declared.message.MsgBody.{MsgBody}
 use Rattle.fc_msg.specs.declared.fault.Refusal.{Refusal}
 use Rattle.fc_msg.specs.declared.fault.Reason.{Reason}
@@ -67,13 +68,14 @@ header_rules bytes =
 -- the types of messages that are in the table
 abbrev pub is_type : ℕ → Bool
 is_type kind =
-    kind == 1 || kind == 2 || kind == 3 || kind == 4 || kind == 5 || kind == 15 || kind == 17 || kind == 19 || kind == 20
+    kind == types.setup || kind == types.teardown || kind == types.config || kind == types.query || kind == types.event
+    || kind == types.heartbeat || kind == types.setup_response || kind == types.config_response || kind == types.query_response
 
 -- the rules of the type: PacketRedirect is not taken yet
 abbrev pub type_rules : ℕ → List Rule
-type_rules kind = rule (kind == 6) 1 NotBuilt ∷ rule (not (is_type kind)) 1 UnknownType ∷ []
+type_rules kind = rule (kind == types.redirect) 1 NotBuilt ∷ rule (not (is_type kind)) 1 UnknownType ∷ []
 
--- what is told of a fault of a body; want of memory is none
+-- what is told of a fault of a body; out of memory is none
 abbrev pub told_of : PathFault → Option Refusal
 told_of (path.Wire fault) = Some (refusal_of fault)
 told_of (path.UnknownTlv place) = Some (refusal place UnknownTlv)

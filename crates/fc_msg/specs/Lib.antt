@@ -4,5 +4,6 @@ pub mod Decoding
 pub mod Faults
 pub mod Lending
 pub mod Messages
+pub mod MessageTypes
 pub mod Reading
 pub mod Splitting

@@ -10,21 +10,22 @@ use Rattle.fc_path.specs.Canon.{Written, joined, plain, select_written, wrapped}
 use Rattle.fc_path.specs.Grammar.{Each, IsSelect}
 use Rattle.fc_path.specs.Proper.{ProperSelect}
 use Rattle.fc_path.specs.declared.oper.Select.{Select}
+use Rattle.fc_msg.specs.MessageTypes as types
 use Rattle.fc_msg.specs.declared.message.Message.{Message}
 use Rattle.fc_msg.specs.declared.message.MsgBody.{MsgBody}
 use Rattle.fc_msg.specs.declared.message.MsgBody.TheVariants.{Setup, SetupResponse, Teardown, Config, ConfigResponse, Query, QueryResponse, Event, Heartbeat}
 
 -- the type of a message
 abbrev pub kind_of : MsgBody → ℕ
-kind_of (Setup selects) = 1
-kind_of (SetupResponse result) = 17
-kind_of (Teardown reason) = 2
-kind_of (Config selects) = 3
-kind_of (ConfigResponse selects) = 19
-kind_of (Query selects) = 4
-kind_of (QueryResponse selects) = 20
-kind_of (Event selects) = 5
-kind_of Heartbeat = 15
+kind_of (Setup selects) = types.setup
+kind_of (SetupResponse result) = types.setup_response
+kind_of (Teardown reason) = types.teardown
+kind_of (Config selects) = types.config
+kind_of (ConfigResponse selects) = types.config_response
+kind_of (Query selects) = types.query
+kind_of (QueryResponse selects) = types.query_response
+kind_of (Event selects) = types.event
+kind_of Heartbeat = types.heartbeat
 
 -- the header of a message of so many words
 abbrev pub header_of : Message → ℕ → Header
@@ -45,14 +46,14 @@ AreSelects kind selects bytes = (0 < length selects) × Each (IsSelect kind) sel
 
 -- the bytes behind the header spell the body
 abbrev pub SpellsBody : MsgBody → List ℕ → Type 0
-SpellsBody (Setup selects) bytes = Each (IsSelect 1) selects bytes
-SpellsBody (SetupResponse result) bytes = IsNumber 16 result bytes
-SpellsBody (Teardown reason) bytes = IsNumber 17 reason bytes
-SpellsBody (Config selects) bytes = AreSelects 3 selects bytes
-SpellsBody (ConfigResponse selects) bytes = AreSelects 19 selects bytes
-SpellsBody (Query selects) bytes = AreSelects 4 selects bytes
-SpellsBody (QueryResponse selects) bytes = AreSelects 20 selects bytes
-SpellsBody (Event selects) bytes = AreSelects 5 selects bytes
+SpellsBody (Setup selects) bytes = Each (IsSelect types.setup) selects bytes
+SpellsBody (SetupResponse result) bytes = IsNumber types.as_result result bytes
+SpellsBody (Teardown reason) bytes = IsNumber types.as_reason reason bytes
+SpellsBody (Config selects) bytes = AreSelects types.config selects bytes
+SpellsBody (ConfigResponse selects) bytes = AreSelects types.config_response selects bytes
+SpellsBody (Query selects) bytes = AreSelects types.query selects bytes
+SpellsBody (QueryResponse selects) bytes = AreSelects types.query_response selects bytes
+SpellsBody (Event selects) bytes = AreSelects types.event selects bytes
 SpellsBody Heartbeat bytes = bytes ≡ []
 
 -- the bytes spell the message; the reserved bits of the header, and padding, are free
@@ -68,14 +69,14 @@ abbrev pub ProperSelects : ℕ → List Select → Type 0
 ProperSelects kind selects = (0 < length selects) × AllByRecursion (ProperSelect kind) selects
 
 abbrev pub ProperMsgBody : MsgBody → Type 0
-ProperMsgBody (Setup selects) = AllByRecursion (ProperSelect 1) selects
+ProperMsgBody (Setup selects) = AllByRecursion (ProperSelect types.setup) selects
 ProperMsgBody (SetupResponse result) = result < 2 ^ 32
 ProperMsgBody (Teardown reason) = reason < 2 ^ 32
-ProperMsgBody (Config selects) = ProperSelects 3 selects
-ProperMsgBody (ConfigResponse selects) = ProperSelects 19 selects
-ProperMsgBody (Query selects) = ProperSelects 4 selects
-ProperMsgBody (QueryResponse selects) = ProperSelects 20 selects
-ProperMsgBody (Event selects) = ProperSelects 5 selects
+ProperMsgBody (Config selects) = ProperSelects types.config selects
+ProperMsgBody (ConfigResponse selects) = ProperSelects types.config_response selects
+ProperMsgBody (Query selects) = ProperSelects types.query selects
+ProperMsgBody (QueryResponse selects) = ProperSelects types.query_response selects
+ProperMsgBody (Event selects) = ProperSelects types.event selects
 ProperMsgBody Heartbeat = ⊤
 
 pub record IsProper (m : Message) : Type 0 where
@@ -91,8 +92,8 @@ selects_written selects = joined (map select_written selects)
 
 abbrev pub body_written : MsgBody → Written
 body_written (Setup selects) = selects_written selects
-body_written (SetupResponse result) = wrapped 16 (plain (u32_bytes result))
-body_written (Teardown reason) = wrapped 17 (plain (u32_bytes reason))
+body_written (SetupResponse result) = wrapped types.as_result (plain (u32_bytes result))
+body_written (Teardown reason) = wrapped types.as_reason (plain (u32_bytes reason))
 body_written (Config selects) = selects_written selects
 body_written (ConfigResponse selects) = selects_written selects
 body_written (Query selects) = selects_written selects

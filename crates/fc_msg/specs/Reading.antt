@@ -39,7 +39,7 @@ unless_broken None (Err fault) bytes = None
 unfoldable pub message_in : List ℕ → Option Message
 message_in bytes = unless_broken (head_fault bytes) (body_in bytes) bytes
 
--- an answer of decoding tells what is in the bytes, unless there was no memory
+-- an answer of decoding tells what is in the bytes, unless it is out of memory
 abbrev pub Tells : Option Message → Result Message MsgFault → Type 0
 Tells found (Ok m) = found ≡ Some m
 Tells found (Err (At told)) = found ≡ None

@@ -1,5 +1,5 @@
 // Bytes to messages.
-ghost use Rattle.std.specs.Prelude.{◌≡◌, ◌*◌, ◌≤◌, length, take, slice_index, IfOk, IfErr, Some, None};
+ghost use Rattle.std.specs.Prelude.{◌≡◌, ◌*◌, ◌≤◌, length, take, slice_index, Ok, IfOk, IfErr, Some, None};
 ghost use Rattle.fc_wire.specs.Bytes.{u16_at};
 ghost use Rattle.fc_wire.specs.Header.{IsHeader};
 ghost use Rattle.fc_wire.specs.declared.header.Header.{Header};
@@ -15,7 +15,6 @@ use crate::message::{
     CONFIG, CONFIG_RESPONSE, EVENT, HEARTBEAT, Message, QUERY, QUERY_RESPONSE, REDIRECT, SETUP,
     SETUP_RESPONSE, TEARDOWN,
 };
-use fc_path::are_bytes;
 use fc_wire::{Header, Tlvs};
 use std::alloc::Global;
 
@@ -23,13 +22,12 @@ use std::alloc::Global;
 pub fn decode(alloc: Global, bytes: &[u8]) -> Result<Message, MsgFault>
     ensures found { IfOk result (λ m. Spells m bytes.now) }
     ensures proper { IfOk result (λ m. IsProper m) }
-    ensures only { (m : Message) → Spells m bytes.now → Gives m result }
+    ensures only { (m : Message) → Spells m bytes.now → Gives result (Ok m) }
     ensures exact { Tells (message_in bytes.now) result }
     ensures accepted { IfOk result (λ _. fault_of bytes.now ≡ None) }
     ensures refused { IfErr result (λ fault. Refuses (fault_of bytes.now) fault) }
     ensures within { IfErr result (λ fault. IsWithin (length bytes.now) fault) }
 {
-    are_bytes(bytes);
     message_of(alloc, bytes)
 }
 
@@ -64,6 +62,8 @@ pub fn headed(bytes: &[u8]) -> Result<Header, Refusal>
     ensures some { IfOk result (λ h. 6 ≤ h.words) }
     ensures accepted { IfOk result (λ _. head_fault bytes.now ≡ None) }
     ensures refused { IfErr result (λ refusal. head_fault bytes.now ≡ Some refusal) }
+    ensures told { IfErr result (λ refusal. fault_of bytes.now ≡ Some refusal) }
+    ensures within { IfErr result (λ refusal. refusal.place ≤ length bytes.now) }
 {
     let header = match framed(bytes) {
         Ok(header) => header,

@@ -113,8 +113,7 @@ fn write_body(to: &mut TlvWriter, body: &MsgBody) -> Result<(), WriteFault>
     }
 }
 
-// Appends the header of the message, and this body behind it. After an `Err`, which is want of memory, nothing has
-// changed.
+// Appends the header of the message, and the body after it. After an `Err`, which is out of memory, nothing has changed.
 fn append(message: &Message, body: &[u8], into: &mut Vec<u8>) -> Result<(), WriteFault>
     requires { length body.now ≤ 262116 }
     ensures ok { OnOk result (into.new.items ≡ into.old.items ++ with_body message.now body.now) }

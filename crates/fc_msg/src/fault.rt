@@ -99,7 +99,7 @@ impl Refusal {
 pub enum MsgFault {
     /// The bytes spell no message.
     At(Refusal),
-    /// There was no memory.
+    /// Out of memory.
     Memory,
 }
 

@@ -21,4 +21,4 @@ pub use message::{
     AS_REASON, AS_RESULT, CONFIG, CONFIG_RESPONSE, EVENT, HEARTBEAT, Message, MsgBody, QUERY,
     QUERY_RESPONSE, SETUP, SETUP_RESPONSE, TEARDOWN,
 };
-pub use splitter::{Splitter, whole_frame};
+pub use splitter::{Splitter, read_behind, whole_frame};

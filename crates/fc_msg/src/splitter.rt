@@ -96,8 +96,13 @@ impl Splitter {
     }
 }
 
-// Reads at most so many bytes, and appends them. After an `Err` the bytes are as before.
-fn read_behind<S: Source>(bytes: &mut Vec<u8>, input: &mut S, most: usize) -> Result<usize, Trouble>
+/// Reads the next piece of a source, at most so many bytes, and appends it. Zero says that the source has ended. After an
+/// `Err` nothing has changed.
+pub fn read_behind<S: Source>(
+    bytes: &mut Vec<u8>,
+    input: &mut S,
+    most: usize,
+) -> Result<usize, Trouble>
     requires some { 0 < most }
     requires room { vec_len bytes.old + most < 2 ^ 62 }
     ensures fed { IfOk result (λ n. (piece : List ℕ) × (bytes.new.items ≡ bytes.old.items ++ piece) × (length piece ≡ n) × (n ≤ most)
