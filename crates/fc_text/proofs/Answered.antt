@@ -6,45 +6,41 @@ use Rattle.fc_msg.specs.Messages.{IsProper, canonical, message_fits}
 use Rattle.fc_msg.specs.declared.message.Message.{Message}
 use Rattle.fc_text.specs.Making.{Makes}
 use Rattle.fc_text.specs.TextGrammar.{SpellsSelects, SpellsText}
-use Rattle.fc_text.specs.TextPlaces.{TextPlace, place, Gives, RefusedAt, TextTells}
+use Rattle.fc_text.specs.TextPlaces.{TextPlace, place, Gives, RefusedAt}
 use Rattle.fc_text.specs.TextReading.{text_in, body_in}
 use Rattle.fc_text.specs.declared.fault.TextFault.{TextFault}
 use Rattle.fc_text.specs.declared.fault.TextFault.TheVariants.{At, Memory}
 use Rattle.fc_text.proofs.Completeness.{spelled_body_is_read, spelled_text_is_read}
 use Rattle.fc_text.proofs.SoundMessages.{read_body_is_spelled, read_text_is_spelled}
 
-pub is_spelled : (bytes : List ℕ) (r : Result (List Message) TextFault) → TextTells (text_in bytes) r → IfOk r (λ ms. SpellsText ms bytes)
+pub is_spelled : (bytes : List ℕ) (r : Result (List Message) TextFault) → Gives r (text_in bytes) → IfOk r (λ ms. SpellsText ms bytes)
 is_spelled bytes (Ok ms) told = read_text_is_spelled ms bytes told
 is_spelled bytes (Err fault) told = tt
 
-pub are_proper : (bytes : List ℕ) (r : Result (List Message) TextFault) → TextTells (text_in bytes) r → IfOk r (λ ms. AllByRecursion IsProper ms)
+pub are_proper : (bytes : List ℕ) (r : Result (List Message) TextFault) → Gives r (text_in bytes) → IfOk r (λ ms. AllByRecursion IsProper ms)
 are_proper bytes (Ok ms) told = (read_text_is_spelled ms bytes told).proper
 are_proper bytes (Err fault) told = tt
 
-pub are_fit : (bytes : List ℕ) (r : Result (List Message) TextFault) → TextTells (text_in bytes) r → IfOk r (λ ms. AllByRecursion (λ m. message_fits m ≡ true) ms)
+pub are_fit : (bytes : List ℕ) (r : Result (List Message) TextFault) → Gives r (text_in bytes) → IfOk r (λ ms. AllByRecursion (λ m. message_fits m ≡ true) ms)
 are_fit bytes (Ok ms) told = (read_text_is_spelled ms bytes told).fit
 are_fit bytes (Err fault) told = tt
 
-pub only_those : (bytes : List ℕ) (r : Result (List Message) TextFault) (ms : List Message) → TextTells (text_in bytes) r → SpellsText ms bytes → Gives ms r
-only_those bytes (Ok others) ms told s = let is = sym told ∙ spelled_text_is_read ms bytes s in cc
-only_those bytes (Err (At line column)) ms told s = let is = sym told ∙ spelled_text_is_read ms bytes s in absurd cc
-only_those bytes (Err Memory) ms told s = tt
+pub only_those : (bytes : List ℕ) (r : Result (List Message) TextFault) (ms : List Message) → Gives r (text_in bytes) → SpellsText ms bytes → Gives r (Ok ms)
+only_those bytes r ms told s = subst (λ (read : Result (List Message) TextPlace). Gives r read) (spelled_text_is_read ms bytes s) told
 
 -- what holds of each place at which reading fails holds of the place that is told
-pub told_at : {X : Type 0} (Is : TextPlace → Type 0) (read : Result X TextPlace) (r : Result X TextFault) → ((p : TextPlace) → read ≡ Err p → Is p) → TextTells read r → RefusedAt Is r
+pub told_at : {X : Type 0} (Is : TextPlace → Type 0) (read : Result X TextPlace) (r : Result X TextFault) → ((p : TextPlace) → read ≡ Err p → Is p) → Gives r read → RefusedAt Is r
 told_at Is read (Ok x) each told = tt
 told_at Is read (Err (At line column)) each told = each (place line column) told
 told_at Is read (Err Memory) each told = tt
 
 -- the LFBselects of a Config that are read are those that the bytes spell
-pub selects_spelled : (bytes : List ℕ) (r : Result (List Select) TextFault) → TextTells (body_in bytes) r → IfOk r (λ ss. SpellsSelects ss bytes)
+pub selects_spelled : (bytes : List ℕ) (r : Result (List Select) TextFault) → Gives r (body_in bytes) → IfOk r (λ ss. SpellsSelects ss bytes)
 selects_spelled bytes (Ok ss) told = read_body_is_spelled ss bytes told
 selects_spelled bytes (Err fault) told = tt
 
-pub only_selects : (bytes : List ℕ) (r : Result (List Select) TextFault) (ss : List Select) → TextTells (body_in bytes) r → SpellsSelects ss bytes → Gives ss r
-only_selects bytes (Ok others) ss told s = let is = sym told ∙ spelled_body_is_read ss bytes s in cc
-only_selects bytes (Err (At line column)) ss told s = let is = sym told ∙ spelled_body_is_read ss bytes s in absurd cc
-only_selects bytes (Err Memory) ss told s = tt
+pub only_selects : (bytes : List ℕ) (r : Result (List Select) TextFault) (ss : List Select) → Gives r (body_in bytes) → SpellsSelects ss bytes → Gives r (Ok ss)
+only_selects bytes r ss told s = subst (λ (read : Result (List Select) TextPlace). Gives r read) (spelled_body_is_read ss bytes s) told
 
 -- the bytes that are made of a text are those of the messages that it spells
 pub made_spelled : (bytes old new : List ℕ) (r : Result (Unit {0}) TextFault) → Makes r (text_in bytes) old new

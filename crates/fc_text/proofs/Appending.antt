@@ -1,5 +1,5 @@
 -- Reading and appending, one step at a time.
-use Rattle.std.proofs.Common.{◌≡◌, ◌≤◌, ◌+◌, ◌*◌, ◌==◌, ◌||◌, Bool, true, false, not, nat_lt, cond, length, drop, take, slice_index, IfOk, IfErr, arith, ℕ, List, [], ◌∷◌, ◌++◌, Option, Some, None, Result, Ok, Err, refl, sym, ap, ◌∙◌, append_assoc, append-nil, subst}
+use Rattle.std.proofs.Common.{◌≡◌, ◌≤◌, ◌+◌, ◌*◌, ◌==◌, ◌||◌, Bool, true, false, not, nat_lt, cond, length, drop, take, slice_index, IfOk, IfErr, OnErr, arith, ℕ, List, [], ◌∷◌, ◌++◌, Option, Some, None, Result, Ok, Err, refl, sym, ap, ◌∙◌, append_assoc, append-nil, subst}
 use Rattle.std.specs.List.{flat_map}
 use Rattle.std.proofs.lemmas.Grind.{flat_map-append}
 use Rattle.fc_wire.specs.Tiling.{Tiling, next_of, rest_of}
@@ -29,16 +29,16 @@ use Rattle.fc_msg.specs.declared.message.MsgBody.{MsgBody}
 use Rattle.fc_msg.specs.declared.message.MsgBody.TheVariants.{Setup, SetupResponse, Teardown, Heartbeat}
 use Rattle.fc_msg.proofs.Reading.{body_gives, whole, with_header}
 use Rattle.fc_text.specs.Text.{body_name, content_text, fields_text, head_text, message_text, oper_text, select_line, select_text}
-use Rattle.fc_text.specs.Appending.{told, Tells, bare, type_name}
+use Rattle.fc_text.specs.Appending.{shown, Shows, ShowsMessage, bare, type_name}
 
 -- what was read, where its text was appended
-pub was_read : {X : Type 0} (r : Result X PathFault) (text : X → List ℕ) (now next : List ℕ) → told r text now ≡ Ok next → (x : X) × (r ≡ Ok x) × (next ≡ now ++ text x)
+pub was_read : {X : Type 0} (r : Result X PathFault) (text : X → List ℕ) (now next : List ℕ) → shown r text now ≡ Ok next → (x : X) × (r ≡ Ok x) × (next ≡ now ++ text x)
 was_read (Err e) text now next h = cc
 was_read (Ok x) text now next h = (x, refl, cc)
 
 -- a reading that goes on with what was read
 pub goes_on : {X Y : Type 0} (result : Result (Unit {0}) PathFault) (r : Result X PathFault) (f : X → Y) (text : X → List ℕ) (other : Y → List ℕ) (old line mid new : List ℕ)
-    → mid ≡ old ++ line → ((x : X) → other (f x) ≡ line ++ text x) → Tells result r text mid new → Tells result (r >>= λ x. Ok (f x)) other old new
+    → mid ≡ old ++ line → ((x : X) → other (f x) ≡ line ++ text x) → Shows result r text mid new → Shows result (r >>= λ x. Ok (f x)) other old new
 goes_on (Err fault) r f text other old line mid new m same t = fails_bind fault r (λ x. Ok (f x)) t
 goes_on (Ok done) (Err e) f text other old line mid new m same t = cc
 goes_on (Ok done) (Ok x) f text other old line mid new m same t =
@@ -52,7 +52,7 @@ module _ {X : Type 0} (one : TlvItem → Result X PathFault) (text : X → List 
     pub text_is : now ≡ old ++ flat_map text front
 
   pub goes : (items : List TlvItem) (fault : Option WireFault) (t : TlvItem) (rest : Tiling TlvItem) (old now next : List ℕ) (all : Result (List X) PathFault)
-      → Appended items fault old now all → Some (Ok t) ≡ next_of items fault → rest ≡ rest_of items fault → told (one t) text now ≡ Ok next → Appended rest.items rest.fault old next all
+      → Appended items fault old now all → Some (Ok t) ≡ next_of items fault → rest ≡ rest_of items fault → shown (one t) text now ≡ Ok next → Appended rest.items rest.fault old next all
   goes items fault t rest old now next all a n r h =
       let (x, is, e) = was_read (one t) text now next h in
       record {
@@ -74,8 +74,8 @@ module _ {X : Type 0} (one : TlvItem → Result X PathFault) (text : X → List 
   pub breaks : (items : List TlvItem) (fault : Option WireFault) (old now : List ℕ) (all : Result (List X) PathFault) (w : WireFault) → Appended items fault old now all → Some (Err w) ≡ next_of items fault → all ≡ Err (faults.Wire w)
   breaks items fault old now all w a n = broken items fault a.front all w a.so_far n
 
-  pub ends : (items : List TlvItem) (fault : Option WireFault) (old now : List ℕ) (all : Result (List X) PathFault) → Appended items fault old now all → None ≡ next_of items fault → told all (flat_map text) old ≡ Ok now
-  ends items fault old now all a n = ap (λ r. told r (flat_map text) old) (loop_end one items fault a.front all a.so_far n) ∙ ap Ok (sym a.text_is)
+  pub ends : (items : List TlvItem) (fault : Option WireFault) (old now : List ℕ) (all : Result (List X) PathFault) → Appended items fault old now all → None ≡ next_of items fault → shown all (flat_map text) old ≡ Ok now
+  ends items fault old now all a n = ap (λ r. shown r (flat_map text) old) (loop_end one items fault a.front all a.so_far n) ∙ ap Ok (sym a.text_is)
 
   all_same : (r : Result (List X) PathFault) → (r >>= λ xs. Ok xs) ≡ r
   all_same (Ok xs) = refl
@@ -96,20 +96,20 @@ module _ {X : Type 0} (one : TlvItem → Result X PathFault) (text : X → List 
   first_fails end items fault t rest e n r f = subst (Fails e) (sym (some_cons end items fault t rest n r)) (fails_bind e (one t) _ f)
 
   pub then_others : (result : Result (Unit {0}) PathFault) (end : ℕ) (items : List TlvItem) (fault : Option WireFault) (t : TlvItem) (rest : Tiling TlvItem) (old mid new : List ℕ)
-      → Some (Ok t) ≡ next_of items fault → rest ≡ rest_of items fault → told (one t) text old ≡ Ok mid → Tells result (each_in one rest.items rest.fault) (flat_map text) mid new
-      → Tells result (some_in one end items fault) (flat_map text) old new
+      → Some (Ok t) ≡ next_of items fault → rest ≡ rest_of items fault → shown (one t) text old ≡ Ok mid → Shows result (each_in one rest.items rest.fault) (flat_map text) mid new
+      → Shows result (some_in one end items fault) (flat_map text) old new
   then_others result end items fault t rest old mid new n r h others =
       let (x, is, e) = was_read (one t) text old mid h in
       let same : some_in one end items fault ≡ (each_in one rest.items rest.fault >>= λ xs. Ok (x ∷ xs)) =
       some_cons end items fault t rest n r ∙ ap (λ q. q >>= λ x. each_in one rest.items rest.fault >>= λ xs. Ok (x ∷ xs)) is in
-      subst (λ q. Tells result q (flat_map text) old new) (sym same) (goes_on result (each_in one rest.items rest.fault) (λ xs. x ∷ xs) (flat_map text) (flat_map text) old (text x) mid new e (λ xs. refl) others)
+      subst (λ q. Shows result q (flat_map text) old new) (sym same) (goes_on result (each_in one rest.items rest.fault) (λ xs. x ∷ xs) (flat_map text) (flat_map text) old (text x) mid new e (λ xs. refl) others)
 
 -- at least one, where the view and the end are written in another way
 pub same_some : {X : Type 0} (one : TlvItem → Result X PathFault) (text : X → List ℕ) (result : Result (Unit {0}) PathFault) (end other_end : ℕ) (t other : Tiling TlvItem) (mid new : List ℕ)
-    → end ≡ other_end → t ≡ other → Tells result (some_in one end t.items t.fault) (flat_map text) mid new → Tells result (some_in one other_end other.items other.fault) (flat_map text) mid new
+    → end ≡ other_end → t ≡ other → Shows result (some_in one end t.items t.fault) (flat_map text) mid new → Shows result (some_in one other_end other.items other.fault) (flat_map text) mid new
 same_some one text result end other_end t other mid new e s h =
-    subst (λ (n : ℕ). Tells result (some_in one n other.items other.fault) (flat_map text) mid new) e
-    (subst (λ (u : Tiling TlvItem). Tells result (some_in one end u.items u.fault) (flat_map text) mid new) s h)
+    subst (λ (n : ℕ). Shows result (some_in one n other.items other.fault) (flat_map text) mid new) e
+    (subst (λ (u : Tiling TlvItem). Shows result (some_in one end u.items u.fault) (flat_map text) mid new) s h)
 
 not_short : (n : ℕ) → 8 ≤ n → nat_lt n 8 ≡ false
 not_short n h = grind arith
@@ -129,10 +129,10 @@ select_is message tlv kind holds long =
 
 pub select_goes : (result : Result (Unit {0}) PathFault) (message : ℕ) (tlv : TlvItem) (class instance end : ℕ) (t : Tiling TlvItem) (old mid new : List ℕ) → tlv.kind ≡ 4096 → holds_selects message ≡ true → 8 ≤ length tlv.body
     → end ≡ end_of tlv → t ≡ tlvs (tlv.place + 12) (drop 8 tlv.padded) → class ≡ u32_at tlv.padded 0 → instance ≡ u32_at tlv.padded 4 → mid ≡ old ++ select_line class instance
-    → Tells result (some_in (oper_at message) end t.items t.fault) (flat_map oper_text) mid new → Tells result (select_at message tlv) select_text old new
+    → Shows result (some_in (oper_at message) end t.items t.fault) (flat_map oper_text) mid new → Shows result (select_at message tlv) select_text old new
 select_goes result message tlv class instance end t old mid new kind holds long e s c i m h =
     let line : mid ≡ old ++ select_line (u32_at tlv.padded 0) (u32_at tlv.padded 4) = m ∙ ap (λ n. old ++ select_line n instance) c ∙ ap (λ n. old ++ select_line (u32_at tlv.padded 0) n) i in
-    subst (λ (q : Result Select PathFault). Tells result q select_text old new) (sym (select_is message tlv kind holds long))
+    subst (λ (q : Result Select PathFault). Shows result q select_text old new) (sym (select_is message tlv kind holds long))
     (goes_on result _ (λ opers. record { class = u32_at tlv.padded 0; instance = u32_at tlv.padded 4; opers = opers }) (flat_map oper_text) select_text old _ mid new line (λ opers. refl)
     (same_some (oper_at message) oper_text result end (end_of tlv) t _ mid new e s h))
 
@@ -164,11 +164,11 @@ name_by false false false false kind ra rb rc rd re body h =
 
 -- the text of the message in bytes
 pub shown_by : (bytes tail : List ℕ) (kind end : ℕ) (t : Tiling TlvItem) (h : Header) (old mid new : List ℕ) → kind ≡ slice_index bytes 1 → tail ≡ drop 24 bytes → end ≡ length bytes → t ≡ tlvs 24 tail → head_fault bytes ≡ None
-    → length bytes ≡ 4 * h.words → 6 ≤ h.words → IsHeader h (take 24 bytes) → mid ≡ old ++ (type_name kind ++ fields_text (bare h)) → told (body_at kind end t.items t.fault) content_text mid ≡ Ok new
+    → length bytes ≡ 4 * h.words → 6 ≤ h.words → IsHeader h (take 24 bytes) → mid ≡ old ++ (type_name kind ++ fields_text (bare h)) → shown (body_at kind end t.items t.fault) content_text mid ≡ Ok new
     → (m : Message) × (message_in bytes ≡ Some m) × (new ≡ old ++ message_text m)
 unfolding message_text head_text fields_text
-shown_by bytes tail kind end t h old mid new k d e i head size some is m told_is =
-    let (body, read, all) = was_read (body_at kind end t.items t.fault) content_text mid new told_is in
+shown_by bytes tail kind end t h old mid new k d e i head size some is m shown_is =
+    let (body, read, all) = was_read (body_at kind end t.items t.fault) content_text mid new shown_is in
     let name : body_name body ≡ type_name kind = name_by (kind == 15) (kind == 17) (kind == 2) (kind == 1) kind _ _ _ _ _ body read in
     let line = type_name kind ++ fields_text (bare h) in (
       with_header h body,
@@ -176,15 +176,24 @@ shown_by bytes tail kind end t h old mid new k d e i head size some is m told_is
       all ∙ ap (λ l. l ++ content_text body) m ∙ append_assoc old line (content_text body) ∙ ap (λ l. old ++ ((l ++ fields_text (bare h)) ++ content_text body)) (sym name),
     )
 
-pub all_spelled : (r : Result (Unit {0}) MsgFault) (bytes old new : List ℕ) → AreBytes bytes → IfOk r (λ _. (m : Message) × (message_in bytes ≡ Some m) × (new ≡ old ++ message_text m))
+-- what is promised of bytes, from what holds of the message in them
+pub all_spelled : (r : Result (Unit {0}) MsgFault) (bytes old new : List ℕ) → AreBytes bytes → ShowsMessage r bytes old new
     → IfOk r (λ _. (m : Message) × Spells m bytes × (new ≡ old ++ message_text m))
 all_spelled (Ok done) bytes old new fine (m, is, e) = (m, whole bytes m fine is, e)
 all_spelled (Err fault) bytes old new fine h = tt
 
 -- a place that is told is within the bytes
-pub all_within : (r : Result (Unit {0}) MsgFault) (bytes : List ℕ) → AreBytes bytes
+pub all_within : (r : Result (Unit {0}) MsgFault) (bytes old new : List ℕ) → AreBytes bytes
     → ((bytes : List ℕ) (told : Refusal) → AreBytes bytes → fault_of bytes ≡ Some told → told.place ≤ length bytes)
-    → IfErr r (λ fault. Refuses (fault_of bytes) fault) → IfErr r (λ fault. IsWithin (length bytes) fault)
-all_within (Ok done) bytes fine low h = tt
-all_within (Err (At told)) bytes fine low h = low bytes told fine h
-all_within (Err Memory) bytes fine low h = tt
+    → ShowsMessage r bytes old new → IfErr r (λ fault. IsWithin (length bytes) fault)
+all_within (Ok done) bytes old new fine low h = tt
+all_within (Err (At told)) bytes old new fine low h = low bytes told fine h.0
+all_within (Err Memory) bytes old new fine low h = tt
+
+pub all_refused : (r : Result (Unit {0}) MsgFault) (bytes old new : List ℕ) → ShowsMessage r bytes old new → IfErr r (λ fault. Refuses (fault_of bytes) fault)
+all_refused (Ok done) bytes old new h = tt
+all_refused (Err fault) bytes old new h = h.0
+
+pub all_kept : (r : Result (Unit {0}) MsgFault) (bytes old new : List ℕ) → ShowsMessage r bytes old new → OnErr r (new ≡ old)
+all_kept (Ok done) bytes old new h = tt
+all_kept (Err fault) bytes old new h = h.1

@@ -18,12 +18,12 @@ use Rattle.fc_base.specs.Answers.{◌>>=◌}
 use Rattle.fc_text.specs.TextPlaces.{TextPlace, place}
 use Rattle.fc_text.specs.WordValues.{digits_of}
 use Rattle.fc_text.specs.declared.reading.Head.{Head}
-use Rattle.fc_text.specs.TextReading.{Reader, many_at, some_at, code_in, outcome_at, places_at, operation_at, number_named, operation_named, operation_in, oper_at, select_at, number_at, content_at, message_named, type_in, head_at, shut, message_of, whole_at}
+use Rattle.fc_text.specs.TextReading.{Reader, many_at, some_at, code_in, outcome_at, operation_paths_at, operation_at, number_named, operation_named, operation_in, oper_at, select_at, number_at, content_at, message_named, type_in, head_at, shut, message_of, whole_at}
 use Rattle.fc_text.proofs.Completions.{same_place, word_goes, ended_goes}
 use Rattle.fc_text.proofs.CompletedLines.{SameTo, Ended, Behind, Completes, CompletesLine, line_goes, done_goes, map_goes, same_goes, pure_err}
 use Rattle.fc_text.proofs.CompletedItems.{ReadsAgain, GoesBehind, again_by, IsItem, then_goes, many_goes, some_goes}
 use Rattle.fc_text.proofs.CompletedWords.{name_goes, number_goes, digits_goes, labelled_goes, final_goes, code_goes, code_words}
-use Rattle.fc_text.proofs.CompletedPaths.{counted, line_stands, places_go}
+use Rattle.fc_text.proofs.CompletedPaths.{counted, line_stands, operation_paths_go}
 use Rattle.fc_text.proofs.ReadFront.{oper_front, select_front, content_front, whole_front}
 use Rattle.fc_text.proofs.ReadItems.{Before}
 use Rattle.fc_text.proofs.ReadLines.{Gives}
@@ -100,7 +100,7 @@ outcome_goes level =
     (name_goes Ended Behind (codes "code") (word_by _ (omega arith) refl) _ (final_goes Ended Behind code_in code_goes code_words _ λ code. done_goes code))
 
 operation_goes : (which : Operation) (level : ℕ) → Completes (operation_at which level)
-operation_goes (operation.Paths kind) level = map_goes (places_at kind level) (oper.Paths kind) (places_go kind level)
+operation_goes (operation.Paths kind) level = map_goes (operation_paths_at kind level) (oper.Paths kind) (operation_paths_go kind level)
 operation_goes operation.Commit level = done_goes oper.Commit
 operation_goes operation.Trcomp level = done_goes oper.Trcomp
 operation_goes operation.CommitResponse level = map_goes (outcome_at level) oper.CommitResponse (outcome_goes level)

@@ -15,7 +15,7 @@ use Rattle.fc_text.specs.LineWords.{WordsLeft, LinesLeft, words_left, lines_left
 use Rattle.fc_text.specs.TextGrammar.{ilv_line, body_lines, path_lines, SpellsLine, AreEach}
 use Rattle.fc_base.specs.Answers.{◌>>=◌}
 use Rattle.fc_text.specs.TextPlaces.{TextPlace, place}
-use Rattle.fc_text.specs.TextReading.{Reader, and_more, many_at, ilv_at, steps_in, code_in, leaf_in, path_data, path_by, path_line, paths_by, last_body, body_by, body_at, places_at}
+use Rattle.fc_text.specs.TextReading.{Reader, and_more, many_at, ilv_at, steps_in, code_in, leaf_in, path_data, path_by, path_line, paths_by, last_body, body_by, body_at, operation_paths_at}
 use Rattle.fc_text.proofs.Completions.{Refuses, Chosen, choice_goes, ended_goes}
 use Rattle.fc_text.proofs.CompletedLines.{Ended, Behind, Completes, CompletesLine, line_goes, done_goes, map_goes, pure_err}
 use Rattle.fc_text.proofs.CompletedItems.{Again, ReadsAgain, Counts, again_by, IsItem, then_goes, many_goes, others_go}
@@ -336,9 +336,9 @@ body_goes kind (suc depth) level =
     body_goes_by kind (body_at kind depth) (ProperAt kind depth) (record { goes = body_goes kind depth; front = body_front kind depth; sound = body_sound kind depth; reads = body_read kind depth }) level
 
 -- the PATH-DATA of an operation
-pub places_go : (kind : OperKind) (level : ℕ) → Completes (places_at kind level)
-unfolding places_at exactly word_in
-places_go kind level =
+pub operation_paths_go : (kind : OperKind) (level : ℕ) → Completes (operation_paths_at kind level)
+unfolding operation_paths_at exactly word_in
+operation_paths_go kind level =
     line_goes level _ (λ n e left. refl)
     (name_goes Ended Behind (codes "path") path_word _
     (paths_go (body_at kind 15) (ProperAt kind 15) (record { goes = body_goes kind 15; front = body_front kind 15; sound = body_sound kind 15; reads = body_read kind 15 }) level))

@@ -10,7 +10,7 @@ use Rattle.fc_msg.specs.Messages.{message_fits}
 use Rattle.fc_text.specs.LineWords.{WordItem, WordsLeft, LinesLeft, lines_left, stands_at, spaces_before, line_of, line_at, word_in, ended, exactly, decimal_in, digits_in, octets_in, labelled_in}
 use Rattle.fc_base.specs.Answers.{◌>>=◌}
 use Rattle.fc_text.specs.TextPlaces.{TextPlace}
-use Rattle.fc_text.specs.TextReading.{Reader, and_more, each_at, many_at, some_at, ilv_at, steps_in, code_in, outcome_at, leaf_in, path_by, path_line, paths_by, last_body, body_by, body_at, places_at, operation_at, operation_in, oper_at, select_at, number_at, content_at, type_in, head_at, shut, whole_at, message_at}
+use Rattle.fc_text.specs.TextReading.{Reader, and_more, each_at, many_at, some_at, ilv_at, steps_in, code_in, outcome_at, leaf_in, path_by, path_line, paths_by, last_body, body_by, body_at, operation_paths_at, operation_at, operation_in, oper_at, select_at, number_at, content_at, type_in, head_at, shut, whole_at, message_at}
 
 -- the lines that were taken and those that are left
 abbrev total : LinesLeft → ℕ
@@ -118,13 +118,13 @@ body_kept kind zero level = last_kept kind level
 body_kept kind (suc depth) level = body_by_kept (body_at kind depth) (body_kept kind depth) kind level
 
 -- operations and selects
-places_kept : (kind : OperKind) (level : ℕ) → Keeps (places_at kind level)
-unfolding places_at
-places_kept kind level left =
+operation_paths_kept : (kind : OperKind) (level : ℕ) → Keeps (operation_paths_at kind level)
+unfolding operation_paths_at
+operation_paths_kept kind level left =
     and_then left (line_at level left) _ (line_kept level left) λ l. by_words l.1 (exactly (codes "path") l.0) _ λ w. paths_kept (body_at kind 15) (body_kept kind 15) level w.1 l.1
 
 operation_kept : (which : Operation) (level : ℕ) → Keeps (operation_at which level)
-operation_kept (operation.Paths kind) level left = and_then left (places_at kind level left) _ (places_kept kind level left) λ paths. refl
+operation_kept (operation.Paths kind) level left = and_then left (operation_paths_at kind level left) _ (operation_paths_kept kind level left) λ paths. refl
 operation_kept operation.Commit level left = refl
 operation_kept operation.Trcomp level left = refl
 operation_kept operation.CommitResponse level left = and_then left (outcome_at level left) _ (outcome_kept level left) λ code. refl

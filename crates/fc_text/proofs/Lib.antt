@@ -44,7 +44,7 @@ pub mod SoundWords
 pub mod SpelledRanges
 pub mod SpelledWords
 pub mod SplitLines
-pub mod TellingPaths
+pub mod ShowingPaths
 pub mod TextLaws
 pub mod WholeLines
 pub mod WordRefusals

@@ -10,7 +10,7 @@ use Rattle.fc_text.specs.TextReading.{Reader, and_more, each_at, many_at, some_a
 use Rattle.fc_text.specs.declared.fault.TextFault.{TextFault}
 use Rattle.fc_text.specs.declared.fault.TextFault.TheVariants as faults
 
-pub fails_bind : {A B : Type 0} (r : Result A TextPlace) (f : A → Result B TextPlace) (e : TextFault) → Fails r e → Fails (r >>= f) e
+pub fails_bind : {A B : Type 0} (r : Result A TextPlace) (f : A → Result B TextPlace) (e : TextFault) → Fails e r → Fails e (r >>= f)
 fails_bind r f (faults.At line column) h = ap (λ q. q >>= f) h
 fails_bind r f faults.Memory h = tt
 
@@ -88,14 +88,14 @@ module _ {X : Type 0} (level : ℕ) (one : Reader X) (front : List X) (left : Li
   goes next rest x g st is less e = goes_by g.fuel next rest x g.enough g.so_far st is less e
 
   fails_by : (fuel : ℕ) (e : TextFault) → length left.lines ≤ fuel → (each_at fuel level one left >>= behind front) ≡ all
-      → stands_at level left.lines ≡ true → Fails (one left) e → Fails all e
+      → stands_at level left.lines ≡ true → Fails e (one left) → Fails e all
   fails_by zero e enough h st f = let some : 0 < length left.lines = some_left level left.lines st in absurd (omega arith)
   fails_by (suc k) e enough h st f =
-      subst (λ (r : Result (List X × LinesLeft) TextPlace). Fails r e)
+      subst (λ (r : Result (List X × LinesLeft) TextPlace). Fails e r)
       (ap (λ b. cond b (one left >>= λ x. and_more x.0 (each_at k level one x.1)) (Ok ([], left)) >>= behind front) (sym st) ∙ h)
       (fails_bind _ _ e (fails_bind (one left) _ e f))
 
-  pub fails : (e : TextFault) → Going level one front left all → stands_at level left.lines ≡ true → Fails (one left) e → Fails all e
+  pub fails : (e : TextFault) → Going level one front left all → stands_at level left.lines ≡ true → Fails e (one left) → Fails e all
   fails e g st f = fails_by g.fuel e g.enough g.so_far st f
 
   ends_by : (fuel : ℕ) → (each_at fuel level one left >>= behind front) ≡ all → stands_at level left.lines ≡ false → all ≡ Ok (front, left)

@@ -33,7 +33,7 @@ one_more left rest old now next all m made st is less e = record {
 }
 
 pub one_fails : (left : LinesLeft) (old now : List ℕ) (all : Result (List Message × LinesLeft) TextPlace) (e : TextFault) → Made left old now all → stands_at 0 left.lines ≡ true
-    → Fails (message_at left) e → Fails all e
+    → Fails e (message_at left) → Fails e all
 one_fails left old now all e made st f = fails 0 message_at made.front left all e made.going st f
 
 pub all_made : (left : LinesLeft) (old now : List ℕ) (all : Result (List Message × LinesLeft) TextPlace) → Made left old now all → stands_at 0 left.lines ≡ false

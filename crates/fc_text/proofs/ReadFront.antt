@@ -11,7 +11,7 @@ use Rattle.fc_text.specs.declared.reading.Head.{Head}
 use Rattle.fc_text.specs.LineWords.{WordItem, WordsLeft, LinesLeft, words_from, lines_left, spaces_before, stands_at, line_of, line_at, none_left, closed}
 use Rattle.fc_base.specs.Answers.{◌>>=◌}
 use Rattle.fc_text.specs.TextPlaces.{TextPlace, place}
-use Rattle.fc_text.specs.TextReading.{Reader, and_more, many_at, some_at, each_at, ilv_at, outcome_at, leaf_in, path_by, path_line, paths_by, last_body, body_by, body_at, places_at, operation_at, oper_at, select_at, number_at, content_at, head_at, shut, message_of, whole_at, message_at}
+use Rattle.fc_text.specs.TextReading.{Reader, and_more, many_at, some_at, each_at, ilv_at, outcome_at, leaf_in, path_by, path_line, paths_by, last_body, body_by, body_at, operation_paths_at, operation_at, oper_at, select_at, number_at, content_at, head_at, shut, message_of, whole_at, message_at}
 use Rattle.fc_text.proofs.SoundWords.{bind_ok, same_pair}
 
 -- the indentation of the next line
@@ -296,13 +296,13 @@ pub body_front : (kind : OperKind) (depth level : ℕ) → Front (body_at kind d
 body_front kind zero level = last_front kind level
 body_front kind (suc depth) level = body_by_front (body_at kind depth) (body_front kind depth) kind level
 
-pub places_front : (kind : OperKind) (level : ℕ) → Front (places_at kind level)
-unfolding places_at
-places_front kind level = front_line level _ λ v. front_with _ _ λ w. paths_by_front (body_at kind 15) (body_front kind 15) level w.1
+pub operation_paths_front : (kind : OperKind) (level : ℕ) → Front (operation_paths_at kind level)
+unfolding operation_paths_at
+operation_paths_front kind level = front_line level _ λ v. front_with _ _ λ w. paths_by_front (body_at kind 15) (body_front kind 15) level w.1
 
 -- operations and LFBselects
 pub operation_front : (which : Operation) (level : ℕ) → Front (operation_at which level)
-operation_front (operation.Paths kind) level = front_bind _ (places_front kind level) (λ paths. front_pure)
+operation_front (operation.Paths kind) level = front_bind _ (operation_paths_front kind level) (λ paths. front_pure)
 operation_front operation.Commit level = front_pure
 operation_front operation.Trcomp level = front_pure
 operation_front operation.CommitResponse level = front_bind _ (outcome_front level) (λ code. front_pure)

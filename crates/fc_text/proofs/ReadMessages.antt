@@ -25,7 +25,7 @@ use Rattle.fc_text.specs.WordValues.{given}
 use Rattle.fc_text.proofs.PlainWords.{Whole}
 use Rattle.fc_text.proofs.ReadLines.{Gives, begin, took, took_name, took_number, took_digits, took_labelled, none_left, outcome_read, alone}
 use Rattle.fc_text.proofs.ReadItems.{Before, Begins, before_more, many_reads, some_reads}
-use Rattle.fc_text.proofs.ReadPaths.{places_read}
+use Rattle.fc_text.proofs.ReadPaths.{operation_paths_read}
 use Rattle.fc_text.proofs.SplitLines.{IsWord, is_plain}
 
 -- names
@@ -145,7 +145,7 @@ oper_begins level o = record { first = name_line level (name_for o); more = unde
 under_read : (message level : ℕ) (o : Oper) (texts rest : List (List ℕ)) (taken : ℕ) → ProperOper message o → AreEach SpellsLine (under level o) texts → Before (suc level) rest
     → Gives (operation_at (which o) (level + 1) (lines_left taken (texts ++ rest))) o rest
 under_read message level (oper.Paths kind paths) texts rest taken p h b =
-    let ps = places_read kind (level + 1) paths texts rest taken p.1 p.2 h (before_more (suc level) (level + 1) rest (omega arith) b) in
+    let ps = operation_paths_read kind (level + 1) paths texts rest taken p.1 p.2 h (before_more (suc level) (level + 1) rest (omega arith) b) in
     (ps.0, rw ps.1 refl)
 under_read message level oper.Commit [] rest taken p h b = (taken, refl)
 under_read message level oper.Commit (t ∷ ts) rest taken p h b = absurd h

@@ -16,7 +16,7 @@ use Rattle.fc_path.specs.declared.path.Body.TheViews.{roll-out-Body}
 use Rattle.fc_text.specs.LineWords.{WordsLeft, LinesLeft, WordItem, words_left, lines_left, placed, line_at, word_in}
 use Rattle.fc_text.specs.TextGrammar.{Word, Line, LinesAt, line, name, digits, octets, step_words, ilv_line, code_line, body_step, path_step, body_lines, path_lines, SpellsWord, SpellsLine, AreEach}
 use Rattle.fc_text.specs.TextPlaces.{TextPlace}
-use Rattle.fc_text.specs.TextReading.{Reader, ilv_at, leaf_in, path_by, path_line, paths_by, last_body, body_by, body_at, places_at}
+use Rattle.fc_text.specs.TextReading.{Reader, ilv_at, leaf_in, path_by, path_line, paths_by, last_body, body_by, body_at, operation_paths_at}
 use Rattle.fc_text.proofs.PlainWords.{Named, Whole}
 use Rattle.fc_text.proofs.ReadLines.{Gives, begin, took_name, took_octets, none_left, steps_read, code_read, ilv_read, alone, ilv_whole}
 use Rattle.fc_text.proofs.ReadItems.{Before, Begins, not_there, before_more, each_split, stands, many_reads, follows}
@@ -344,15 +344,15 @@ body_read kind (suc depth) level b texts rest taken proper h before =
     (by_layer kind (body_at kind depth) (ProperAt kind depth) (body_read kind depth) (out-Body b) level texts rest taken proper (subst (λ l. AreEach SpellsLine l texts) (body_is b level) h) before)
 
 -- the PATH-DATA of an operation
-pub places_read : (kind : OperKind) (level : ℕ) (ps : List PathData) (texts rest : List (List ℕ)) (taken : ℕ) → 0 < length ps → AllByRecursion (ProperPath kind 16) ps
-    → AreEach SpellsLine (flat_map (λ p. path_lines p level) ps) texts → Before level rest → Gives (places_at kind level (lines_left taken (texts ++ rest))) ps rest
-unfolding places_at
-places_read kind level [] texts rest taken some proper h b = absurd (omega (arith, some))
-places_read kind level (p ∷ ps) texts rest taken some proper h b =
+pub operation_paths_read : (kind : OperKind) (level : ℕ) (ps : List PathData) (texts rest : List (List ℕ)) (taken : ℕ) → 0 < length ps → AllByRecursion (ProperPath kind 16) ps
+    → AreEach SpellsLine (flat_map (λ p. path_lines p level) ps) texts → Before level rest → Gives (operation_paths_at kind level (lines_left taken (texts ++ rest))) ps rest
+unfolding operation_paths_at
+operation_paths_read kind level [] texts rest taken some proper h b = absurd (omega (arith, some))
+operation_paths_read kind level (p ∷ ps) texts rest taken some proper h b =
     let same : path_lines p level ++ flat_map (λ p. path_lines p level) ps ≡ path_head p level ∷ (body_lines p.body (level + 1) ++ flat_map (λ p. path_lines p level) ps) = ap (λ l. l ++ flat_map (λ p. path_lines p level) ps) (path_lines_are p level) in
     by texts (subst (λ l. AreEach SpellsLine l texts) same h)
   where
-    by : (texts : List (List ℕ)) → AreEach SpellsLine (path_head p level ∷ (body_lines p.body (level + 1) ++ flat_map (λ p. path_lines p level) ps)) texts → Gives (places_at kind level (lines_left taken (texts ++ rest))) (p ∷ ps) rest
+    by : (texts : List (List ℕ)) → AreEach SpellsLine (path_head p level ∷ (body_lines p.body (level + 1) ++ flat_map (λ p. path_lines p level) ps)) texts → Gives (operation_paths_at kind level (lines_left taken (texts ++ rest))) (p ∷ ps) rest
     by [] h = absurd h
     by (t ∷ ts) h =
         let l = begin (path_head p level) taken t (ts ++ rest) (head_whole p level) h.0 in

@@ -10,9 +10,9 @@ use Rattle.fc_path.specs.declared.path.Body.{Body}
 use Rattle.fc_text.specs.LineWords.{WordItem, WordsLeft, words_left, stands_at, none_left, ended, ended_of}
 use Rattle.fc_base.specs.Answers.{◌>>=◌}
 use Rattle.fc_text.specs.TextPlaces.{TextPlace, place}
-use Rattle.fc_text.specs.TextReading.{Reader, many_at, some_at, key_in, steps_of, steps_in, code_in, ilv_at, outcome_at, leaf_in, path_by, path_line, paths_by, last_body, body_by, body_at, places_at, operation_at, oper_at, select_at, number_at, content_at, head_at, message_of, whole_at}
+use Rattle.fc_text.specs.TextReading.{Reader, many_at, some_at, key_in, steps_of, steps_in, code_in, ilv_at, outcome_at, leaf_in, path_by, path_line, paths_by, last_body, body_by, body_at, operation_paths_at, operation_at, oper_at, select_at, number_at, content_at, head_at, message_of, whole_at}
 use Rattle.fc_text.specs.WordValues.{decimal_of}
-use Rattle.fc_text.proofs.ReadFront.{Front, stands_looks, none_looks, ilv_front, ilv_shrinks, ilvs_front, outcome_front, path_by_front, path_line_front, path_line_shrinks, paths_front, paths_by_front, body_front, places_front, oper_front, oper_shrinks, opers_front, select_front, select_shrinks, selects_front, some_selects_front, number_front, content_front, head_front, shut_with, shut_by, shut_is, whole_front, whole_shrinks}
+use Rattle.fc_text.proofs.ReadFront.{Front, stands_looks, none_looks, ilv_front, ilv_shrinks, ilvs_front, outcome_front, path_by_front, path_line_front, path_line_shrinks, paths_front, paths_by_front, body_front, operation_paths_front, oper_front, oper_shrinks, opers_front, select_front, select_shrinks, selects_front, some_selects_front, number_front, content_front, head_front, shut_with, shut_by, shut_is, whole_front, whole_shrinks}
 use Rattle.fc_text.proofs.Refusals.{Fails, fails_as_at, fails_here, fails_and_more, many_fails, some_fails, bind_err, fails_pure, fails_bind, fails_if, fails_choice}
 use Rattle.fc_text.proofs.WordRefusals.{FailsIn, word_fits, word_unfit, word_none, word_first, word_missing, word_behind, FailsPure, FailsItem, WordFails, Means, err_is, fails_line, in_word, in_ended, in_pure, in_bind, in_item, item_in, item_if, item_err, exactly_means, decimal_means, digits_means, octets_means, labelled_means, operation_means, type_means}
 
@@ -149,13 +149,13 @@ pub body_fails : (kind : OperKind) (depth level : ℕ) → Fails (body_at kind d
 body_fails kind zero level = last_fails kind level
 body_fails kind (suc depth) level = body_by_fails (body_at kind depth) (body_front kind depth) (body_fails kind depth) kind level
 
-pub places_fails : (kind : OperKind) (level : ℕ) → Fails (places_at kind level)
-unfolding places_at
-places_fails kind level = fails_line level _ (in_word _ _ (exactly_means (codes "path")) λ u. paths_by_fails (body_at kind 15) (body_front kind 15) (body_fails kind 15) level)
+pub operation_paths_fails : (kind : OperKind) (level : ℕ) → Fails (operation_paths_at kind level)
+unfolding operation_paths_at
+operation_paths_fails kind level = fails_line level _ (in_word _ _ (exactly_means (codes "path")) λ u. paths_by_fails (body_at kind 15) (body_front kind 15) (body_fails kind 15) level)
 
 -- operations and LFBselects
 pub operation_fails : (which : Operation) (level : ℕ) → Fails (operation_at which level)
-operation_fails (operation.Paths kind) level = fails_bind _ (places_front kind level) (places_fails kind level) (λ paths. fails_pure)
+operation_fails (operation.Paths kind) level = fails_bind _ (operation_paths_front kind level) (operation_paths_fails kind level) (λ paths. fails_pure)
 operation_fails operation.Commit level = fails_pure
 operation_fails operation.Trcomp level = fails_pure
 operation_fails operation.CommitResponse level = fails_bind _ (outcome_front level) (outcome_fails level) (λ code. fails_pure)

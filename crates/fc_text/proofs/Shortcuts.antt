@@ -169,10 +169,10 @@ path_made kind ids begun a b c w0 w1 w2 w3 w4 r front is e steps leaf ends =
     })
 
 -- operations
-pub places_made : (kind : OperKind) (n begun : ℕ) (a b : TextAhead) (w0 w1 w2 w3 : Writing) (r : Option (Unit {0})) → n ≡ number_of kind → begun ≡ length w0.text → w1 ≡ writing (w0.text ++ head_bytes n) (w0.places ++ length w0.text ∷ [])
+pub operation_paths_made : (kind : OperKind) (n begun : ℕ) (a b : TextAhead) (w0 w1 w2 w3 : Writing) (r : Option (Unit {0})) → n ≡ number_of kind → begun ≡ length w0.text → w1 ≡ writing (w0.text ++ head_bytes n) (w0.places ++ length w0.text ∷ [])
     → SomeMade (ProperPath kind 16) (λ p. path_lines p 3) path_written a b w1 w2 → Ends r begun w2 w3
     → IfSome r (λ x. Made (SomeOf (ProperPath kind 16)) (flat_map (λ p. path_lines p 3)) (λ ps. oper_written (oper.Paths kind ps)) a b w0 w3)
-places_made kind n begun a b w0 w1 w2 w3 r same is e m ends =
+operation_paths_made kind n begun a b w0 w1 w2 w3 r same is e m ends =
     let head = e ∙ ap (λ k. writing (w0.text ++ head_bytes k) (w0.places ++ length w0.text ∷ [])) same in
     then_some r (tlv_made (number_of kind) begun (joined (map path_written m.thing)) w0 w1 w2 w3 r is head m.pushed ends) (λ x. record { thing = m.thing; proper = m.proper; spelled = m.spelled; pushed = x })
 

@@ -24,10 +24,10 @@ use Rattle.fc_text.specs.TextGrammar.{Word, Line, name, number, digits, flags, c
 use Rattle.fc_base.specs.Answers.{◌>>=◌}
 use Rattle.fc_text.specs.TextPlaces.{TextPlace, place}
 use Rattle.fc_text.specs.declared.reading.Head.{Head}
-use Rattle.fc_text.specs.TextReading.{many_at, some_at, outcome_at, places_at, operation_at, number_named, operation_named, operation_in, oper_at, select_at, number_at, content_at, message_named, type_in, head_at, shut, message_of, whole_at, message_at, text_in, body_in}
+use Rattle.fc_text.specs.TextReading.{many_at, some_at, outcome_at, operation_paths_at, operation_at, number_named, operation_named, operation_in, oper_at, select_at, number_at, content_at, message_named, type_in, head_at, shut, message_of, whole_at, message_at, text_in, body_in}
 use Rattle.fc_text.proofs.SoundValues.{given_some, same_some}
 use Rattle.fc_text.proofs.SoundWords.{bind_ok, same_ok, same_pair, texts, Step, Taken, Found, meaning_sound, exactly_sound, number_sound, digits_sound, label_sound, outcome_sound, line_sound, lines_sound, no_more, one_more, one_line, and_lines}
-use Rattle.fc_text.proofs.SoundPaths.{found_none, many_sound, some_sound, places_sound}
+use Rattle.fc_text.proofs.SoundPaths.{found_none, many_sound, some_sound, operation_paths_sound}
 use Rattle.fc_text.proofs.TextLaws.{flags_fit}
 
 -- a table of names with numbers
@@ -134,9 +134,9 @@ IsOper message level o left rest = Found (oper_lines level o) left rest × Prope
 below_sound : (message level : ℕ) (which : Operation) (v : WordsLeft) (left mid : LinesLeft) (o : Oper) (rest : LinesLeft) → Taken level v left mid → AreEach SpellsWord (name (name_of which) ∷ []) (texts v)
     → operation_of message (type_of which) ≡ Some which → operation_at which (level + 1) mid ≡ Ok (o, rest) → IsOper message level o left rest
 below_sound message level (operation.Paths kind) v left mid o rest taken words is e =
-    bind_ok (places_at kind (level + 1) mid) _ (o, rest) e λ ps is1 e1.
+    bind_ok (operation_paths_at kind (level + 1) mid) _ (o, rest) e λ ps is1 e1.
     let (same, behind) = same_pair (oper.Paths kind ps.0) o ps.1 rest e1 in
-    let all = places_sound kind (level + 1) mid ps.0 ps.1 is1 in
+    let all = operation_paths_sound kind (level + 1) mid ps.0 ps.1 is1 in
     subst (λ o. IsOper message level o left rest) same
     (subst (Found (oper_lines level (oper.Paths kind ps.0)) left) behind (and_lines level (name (kind_name kind) ∷ []) (flat_map (λ p. path_lines p (level + 1)) ps.0) left mid ps.1 v taken words all.0), (is, all.2, all.1))
 below_sound message level operation.Commit v left mid o rest taken words is e =

@@ -16,7 +16,7 @@ use Rattle.fc_text.specs.LineWords.{WordItem, WordsLeft, LinesLeft, words_left, 
 use Rattle.fc_text.specs.TextGrammar.{Line, name, octets, digits, step_words, ilv_line, body_lines, path_lines, SpellsWord, SpellsLine, AreEach}
 use Rattle.fc_base.specs.Answers.{◌>>=◌}
 use Rattle.fc_text.specs.TextPlaces.{TextPlace, place}
-use Rattle.fc_text.specs.TextReading.{Reader, and_more, each_at, many_at, some_at, ilv_at, steps_in, code_in, leaf_in, path_data, path_by, path_line, paths_by, last_body, body_by, body_at, places_at}
+use Rattle.fc_text.specs.TextReading.{Reader, and_more, each_at, many_at, some_at, ilv_at, steps_in, code_in, leaf_in, path_data, path_by, path_line, paths_by, last_body, body_by, body_at, operation_paths_at}
 use Rattle.fc_text.proofs.ReadPaths.{layer_lines, layer_is, path_lines_are, one_each}
 use Rattle.fc_text.proofs.SoundWords.{bind_ok, same_pair, item_text, texts, Step, Taken, Found, exactly_sound, bytes_sound, steps_sound, code_sound, ilv_sound, line_sound, no_more, one_more, one_line, and_lines}
 
@@ -249,10 +249,10 @@ body_sound kind zero level left b rest e = last_sound kind (ProperPath kind 0) l
 body_sound kind (suc depth) level left b rest e = body_sound_by kind (body_at kind depth) (ProperAt kind depth) (body_sound kind depth) level left b rest e
 
 -- the PATH-DATA of an operation
-pub places_sound : (kind : OperKind) (level : ℕ) (left : LinesLeft) (ps : List PathData) (rest : LinesLeft) → places_at kind level left ≡ Ok (ps, rest)
+pub operation_paths_sound : (kind : OperKind) (level : ℕ) (left : LinesLeft) (ps : List PathData) (rest : LinesLeft) → operation_paths_at kind level left ≡ Ok (ps, rest)
     → Found (flat_map (λ p. path_lines p level) ps) left rest × AllByRecursion (ProperPath kind 16) ps × (0 < length ps)
-unfolding places_at
-places_sound kind level left ps rest e =
+unfolding operation_paths_at
+operation_paths_sound kind level left ps rest e =
     bind_ok (line_at level left) _ (ps, rest) e λ l is1 e1.
     bind_ok (exactly (codes "path") l.0) _ (ps, rest) e1 λ w is2 e2.
     paths_sound (body_at kind 15) (ProperAt kind 15) (body_sound kind 15) level l.0 w.1 left l.1 ps rest (line_sound level left l.0 l.1 is1) (exactly_sound (codes "path") l.0 w.0 w.1 is2) e2

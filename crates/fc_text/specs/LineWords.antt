@@ -70,7 +70,7 @@ abbrev pub stands_at : ℕ → List (List ℕ) → Bool
 stands_at level [] = false
 stands_at level (line ∷ lines) = spaces_before line == 2 * level
 
--- the next line, which has to be indented by this level, and those behind it
+-- the next line, which has to be indented by this level, and those that follow it
 abbrev pub line_of : ℕ → ℕ → List (List ℕ) → Result (WordsLeft × LinesLeft) TextPlace
 line_of level taken [] = Err (place (taken + 1) 1)
 line_of level taken (line ∷ lines) =
@@ -89,7 +89,7 @@ none_left (line ∷ lines) = false
 unfoldable pub closed : LinesLeft → Result (Unit {0}) TextPlace
 closed left = if none_left left.lines then Ok tt else Err (place (left.taken + 1) 1)
 
--- the first of the words, and those behind it
+-- the first of the words, and those that follow it
 abbrev pub first_word : List WordItem → Option WordItem
 first_word [] = None
 first_word (word ∷ words) = Some word
@@ -98,7 +98,7 @@ abbrev pub rest_words : List WordItem → List WordItem
 rest_words [] = []
 rest_words (word ∷ words) = words
 
--- the next word and those behind it, or where it is missing
+-- the next word and those that follow it, or where it is missing
 abbrev pub word_of : ℕ → ℕ → List WordItem → Result (WordItem × WordsLeft) TextPlace
 word_of line end [] = Err (place line end)
 word_of line end (word ∷ words) = Ok (word, words_left line end words)

@@ -10,4 +10,4 @@ use Rattle.fc_text.specs.declared.fault.TextFault.{TextFault}
 -- appended nothing
 abbrev pub Makes : Result (Unit {0}) TextFault → Result (List Message) TextPlace → List ℕ → List ℕ → Type 0
 Makes (Ok done) read old new = (ms : List Message) × (read ≡ Ok ms) × (new ≡ old ++ flat_map canonical ms)
-Makes (Err fault) read old new = Fails read fault × (new ≡ old)
+Makes (Err fault) read old new = Fails fault read × (new ≡ old)

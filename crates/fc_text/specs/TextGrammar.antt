@@ -19,6 +19,7 @@ use Rattle.fc_path.specs.declared.path.Body.TheFolds.{fold-PathData, fold-Body}
 use Rattle.fc_path.specs.declared.path.Body.TheOpen.{Body-F, PathData-F}
 use Rattle.fc_msg.specs.Messages.{IsProper, message_fits}
 use Rattle.fc_msg.specs.Reading.{flags_in}
+use Rattle.fc_msg.specs.MessageTypes as types
 use Rattle.fc_msg.specs.declared.message.Message.{Message}
 use Rattle.fc_msg.specs.declared.message.MsgBody.{MsgBody}
 use Rattle.fc_msg.specs.declared.message.MsgBody.TheVariants.{Setup, SetupResponse, Teardown, Config, ConfigResponse, Query, QueryResponse, Event, Heartbeat}
@@ -191,4 +192,4 @@ pub record SpellsText (ms : List Message) (bytes : List ℕ) : Type 0 where
 pub record SpellsSelects (selects : List Select) (bytes : List ℕ) : Type 0 where
   pub lines : SpellsLines (flat_map (select_lines 0) selects) bytes
   pub some : 0 < length selects
-  pub proper : AllByRecursion (ProperSelect 3) selects
+  pub proper : AllByRecursion (ProperSelect types.config) selects

@@ -18,6 +18,7 @@ use Rattle.fc_path.specs.declared.path.Body.TheVariants as body
 use Rattle.fc_msg.specs.Bodies.{holding}
 use Rattle.fc_msg.specs.Messages.{message_fits}
 use Rattle.fc_msg.specs.Reading.{flags_in}
+use Rattle.fc_msg.specs.MessageTypes as types
 use Rattle.fc_msg.specs.declared.message.Message.{Message}
 use Rattle.fc_msg.specs.declared.message.MsgBody.{MsgBody}
 use Rattle.fc_msg.specs.declared.message.MsgBody.TheVariants.{Setup, SetupResponse, Teardown, Heartbeat}
@@ -125,13 +126,13 @@ body_at kind zero = last_body kind
 body_at kind (suc depth) = body_by kind (body_at kind depth)
 
 -- the PATH-DATA of an operation, of which there is at least one, and at most 16 stand inside one another
-unfoldable pub places_at : OperKind → ℕ → Reader (List PathData)
-places_at kind level left =
+unfoldable pub operation_paths_at : OperKind → ℕ → Reader (List PathData)
+operation_paths_at kind level left =
     line_at level left >>= λ l. exactly (codes "path") l.0 >>= λ w. paths_by (body_at kind 15) level w.1 l.1
 
 -- what stands below the line of an operation
 abbrev pub operation_at : Operation → ℕ → Reader Oper
-operation_at (operation.Paths kind) level left = places_at kind level left >>= λ paths. Ok (oper.Paths kind paths.0, paths.1)
+operation_at (operation.Paths kind) level left = operation_paths_at kind level left >>= λ paths. Ok (oper.Paths kind paths.0, paths.1)
 operation_at operation.Commit level left = Ok (oper.Commit, left)
 operation_at operation.Trcomp level left = Ok (oper.Trcomp, left)
 operation_at operation.CommitResponse level left = outcome_at level left >>= λ code. Ok (oper.CommitResponse code.0, code.1)
@@ -181,24 +182,24 @@ number_at name left =
 -- the body of a message of a type
 unfoldable pub content_at : ℕ → Reader MsgBody
 content_at kind left =
-    if kind == 15 then Ok (Heartbeat, left)
-    else (if kind == 17 then number_at (codes "result") left >>= (λ n. Ok (SetupResponse n.0, n.1))
-    else (if kind == 2 then number_at (codes "reason") left >>= (λ n. Ok (Teardown n.0, n.1))
-    else (if kind == 1 then many_at 1 (select_at kind 1) left >>= (λ s. Ok (Setup s.0, s.1))
+    if kind == types.heartbeat then Ok (Heartbeat, left)
+    else (if kind == types.setup_response then number_at (codes "result") left >>= (λ n. Ok (SetupResponse n.0, n.1))
+    else (if kind == types.teardown then number_at (codes "reason") left >>= (λ n. Ok (Teardown n.0, n.1))
+    else (if kind == types.setup then many_at 1 (select_at kind 1) left >>= (λ s. Ok (Setup s.0, s.1))
     else some_at 1 (select_at kind 1) left >>= (λ s. Ok (holding kind s.0, s.1)))))
 
 -- the types of messages by their names
 unfoldable pub message_named : List ℕ → Option ℕ
 message_named name =
-    if bytes_eq name (codes "Heartbeat") then Some 15
-    else (if bytes_eq name (codes "Config") then Some 3
-    else (if bytes_eq name (codes "ConfigResponse") then Some 19
-    else (if bytes_eq name (codes "Query") then Some 4
-    else (if bytes_eq name (codes "QueryResponse") then Some 20
-    else (if bytes_eq name (codes "EventNotification") then Some 5
-    else (if bytes_eq name (codes "AssociationSetup") then Some 1
-    else (if bytes_eq name (codes "AssociationSetupResponse") then Some 17
-    else (if bytes_eq name (codes "AssociationTeardown") then Some 2 else None))))))))
+    if bytes_eq name (codes "Heartbeat") then Some types.heartbeat
+    else (if bytes_eq name (codes "Config") then Some types.config
+    else (if bytes_eq name (codes "ConfigResponse") then Some types.config_response
+    else (if bytes_eq name (codes "Query") then Some types.query
+    else (if bytes_eq name (codes "QueryResponse") then Some types.query_response
+    else (if bytes_eq name (codes "EventNotification") then Some types.event
+    else (if bytes_eq name (codes "AssociationSetup") then Some types.setup
+    else (if bytes_eq name (codes "AssociationSetupResponse") then Some types.setup_response
+    else (if bytes_eq name (codes "AssociationTeardown") then Some types.teardown else None))))))))
 
 unfoldable pub type_in : WordsLeft → Result (ℕ × WordsLeft) TextPlace
 type_in w = meaning message_named w
@@ -240,4 +241,4 @@ text_in bytes = many_at 0 message_at (text_lines bytes) >>= λ ms. closed ms.1 >
 
 -- the LFBselects of the body of a Config, whose lines stand without the indentation that they have in a message
 unfoldable pub body_in : List ℕ → Result (List Select) TextPlace
-body_in bytes = some_at 0 (select_at 3 0) (text_lines bytes) >>= λ s. closed s.1 >>= λ _. Ok s.0
+body_in bytes = some_at 0 (select_at types.config 0) (text_lines bytes) >>= λ s. closed s.1 >>= λ _. Ok s.0

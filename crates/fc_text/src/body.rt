@@ -1,9 +1,9 @@
 // Text to the body of a Config.
-ghost use Rattle.std.specs.Prelude.{◌≡◌, IfOk, List as Listed};
+ghost use Rattle.std.specs.Prelude.{◌≡◌, IfOk, Ok, List as Listed};
 ghost use Rattle.fc_path.specs.declared.oper.Select.{Select as Spelled};
 ghost use Rattle.fc_text.specs.FirstMisfit.{FirstMisfit, FitsSelects, IsWithin};
 ghost use Rattle.fc_text.specs.TextGrammar.{SpellsSelects};
-ghost use Rattle.fc_text.specs.TextPlaces.{Gives, RefusedAt, TextTells};
+ghost use Rattle.fc_text.specs.TextPlaces.{Gives, RefusedAt};
 ghost use Rattle.fc_text.specs.TextReading.{body_in};
 
 use crate::TextFault;
@@ -17,9 +17,9 @@ use std::alloc::Global;
 /// The LFBselects of the body of a Config, whose lines stand without the indentation that they have in a message; or the
 /// first line that does not fit, with its first word that does not. There is at least one.
 pub fn read_body(alloc: Global, bytes: &[u8]) -> Result<List<Select>, TextFault>
-    ensures exact { TextTells (body_in bytes.now) result }
+    ensures exact { Gives result (body_in bytes.now) }
     ensures spelled { IfOk result (λ ss. SpellsSelects ss bytes.now) }
-    ensures only { (ss : Listed Spelled) → SpellsSelects ss bytes.now → Gives ss result }
+    ensures only { (ss : Listed Spelled) → SpellsSelects ss bytes.now → Gives result (Ok ss) }
     ensures misfit { RefusedAt (λ p. FirstMisfit FitsSelects p bytes.now) result }
     ensures within { RefusedAt (λ p. IsWithin p bytes.now) result }
 {
@@ -28,7 +28,7 @@ pub fn read_body(alloc: Global, bytes: &[u8]) -> Result<List<Select>, TextFault>
 
 #[tactic(auto, unfolding(crate::specs::TextReading::body_in))]
 fn read_whole_body(alloc: Global, bytes: &[u8]) -> Result<List<Select>, TextFault>
-    ensures { TextTells (body_in bytes.now) result }
+    ensures { Gives result (body_in bytes.now) }
 {
     let mut lines = Lines::over(bytes);
     let selects = read_some_selects(alloc, CONFIG, 0, &mut lines)?;

@@ -18,8 +18,8 @@ mod quick_lines;
 mod read_path;
 mod read_select;
 mod reading;
-mod tell_path;
-mod telling;
+mod show_path;
+mod showing;
 mod values;
 mod words;
 

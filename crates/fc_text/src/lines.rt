@@ -1,6 +1,6 @@
 // The lines of a text, each with its indentation.
 ghost use Rattle.std.specs.Prelude.{◌≡◌, ◌≤◌, ◌<◌, ◌+◌, ◌*◌, ◌^◌, length, take, drop, ◌∷◌, false, OnOk};
-ghost use Rattle.fc_text.specs.TextPlaces.{Reads, TextTells, place};
+ghost use Rattle.fc_text.specs.TextPlaces.{Gives, Reads, place};
 ghost use Rattle.fc_text.specs.LineWords.{HasNone, lines_left, lines_of, none_left, spaces_before as spaces, stands_at as stands, line_at, text_lines, closed as is_closed};
 ghost use Rattle.fc_text.specs.declared.fault.TextFault.TheVariants.{At};
 
@@ -90,7 +90,7 @@ fn line_len(bytes: &[u8]) -> usize
     len
 }
 
-// The first line, and what stands behind its line feed.
+// The first line, and what follows its line feed.
 #[inline(always)]
 fn first_line(bytes: &[u8]) -> (&[u8], &[u8])
     requires { 0 < length bytes.now }
@@ -105,7 +105,7 @@ fn first_line(bytes: &[u8]) -> (&[u8], &[u8])
 }
 
 impl<'a> Lines<'a> {
-    /// The lines of a text. A line feed at its end begins no other line.
+    /// The lines of a text. A line feed at the end begins no other line.
     pub fn over(text: &'a [u8]) -> Lines<'a>
         ensures { result ≡ text_lines text.now }
     {
@@ -175,7 +175,7 @@ impl<'a> Lines<'a> {
     /// That no line is left.
     #[tactic(auto, unfolding(crate::specs::LineWords::closed))]
     pub fn closed(&self) -> Result<(), TextFault>
-        ensures { TextTells (is_closed self.now) result }
+        ensures { Gives result (is_closed self.now) }
     {
         if self.is_empty() {
             return Ok(());
@@ -188,7 +188,7 @@ impl<'a> Lines<'a> {
     #[tactic(auto, unfolding(crate::specs::LineWords::line_at))]
     pub fn take(&mut self, level: usize) -> Result<Words<'a>, TextFault>
         requires { level ≤ 20 }
-        ensures exact { Reads (line_at level self.old) result self.new }
+        ensures exact { Reads result (line_at level self.old) self.new }
         ensures less { OnOk result (length self.new.lines < length self.old.lines) }
     {
         if !self.stands_at(level) {

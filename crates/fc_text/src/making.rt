@@ -48,7 +48,7 @@ fn make_whole(alloc: Global, text: &[u8], into: &mut Vec<u8>) -> Result<(), Text
 #[tactic(auto, unfolding(crate::specs::TextReading::text_in))]
 fn make_all(alloc: Global, text: &[u8], into: &mut Vec<u8>) -> Result<(), TextFault>
     ensures made { OnOk result ((ms : List Spelled) × (text_in text.now ≡ Ok ms) × (into.new.items ≡ into.old.items ++ flat_map canonical ms)) }
-    ensures refused { IfErr result (λ fault. Fails (text_in text.now) fault) }
+    ensures refused { IfErr result (λ fault. Fails fault (text_in text.now)) }
     ensures some { OnErr result ((ms : List Spelled) × (into.new.items ≡ into.old.items ++ flat_map canonical ms)) }
 {
     let mut kept = Kept {
@@ -75,7 +75,7 @@ fn make_messages(
     into: &mut Vec<u8>,
 ) -> Result<(), TextFault>
     ensures made { OnOk result ((ms : List Spelled) × (many_at 0 message_at lines.old ≡ Ok (ms, lines.new)) × (into.new.items ≡ into.old.items ++ flat_map canonical ms)) }
-    ensures refused { IfErr result (λ fault. Fails (many_at 0 message_at lines.old) fault) }
+    ensures refused { IfErr result (λ fault. Fails fault (many_at 0 message_at lines.old)) }
     ensures some { OnErr result ((ms : List Spelled) × (into.new.items ≡ into.old.items ++ flat_map canonical ms)) }
 {
     'lines: while lines.stands_at(0) {
@@ -92,7 +92,7 @@ fn make_message(
     into: &mut Vec<u8>,
 ) -> Result<(), TextFault>
     ensures made { OnOk result ((m : Spelled) × (message_at lines.old ≡ Ok (m, lines.new)) × (into.new.items ≡ into.old.items ++ canonical m)) }
-    ensures refused { IfErr result (λ fault. Fails (message_at lines.old) fault) }
+    ensures refused { IfErr result (λ fault. Fails fault (message_at lines.old)) }
     ensures none { OnErr result (into.new.items ≡ into.old.items) }
     ensures less { OnOk result (length lines.new.lines < length lines.old.lines) }
 {
@@ -128,7 +128,7 @@ fn make_any(
     into: &mut Vec<u8>,
 ) -> Result<(), TextFault>
     ensures made { OnOk result ((m : Spelled) × (message_at lines.old ≡ Ok (m, lines.new)) × (into.new.items ≡ into.old.items ++ canonical m)) }
-    ensures refused { IfErr result (λ fault. Fails (message_at lines.old) fault) }
+    ensures refused { IfErr result (λ fault. Fails fault (message_at lines.old)) }
     ensures none { OnErr result (into.new.items ≡ into.old.items) }
     ensures less { OnOk result (length lines.new.lines < length lines.old.lines) }
 {

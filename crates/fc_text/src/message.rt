@@ -235,7 +235,7 @@ pub fn push_code(into: &mut Vec<u8>, level: usize, code: Code) -> Result<(), Mem
     Ok(())
 }
 
-/// The level below. There is no memory for so many that they can't be counted.
+/// The level below. It is out of memory where there are more than can be counted.
 pub fn below(level: usize) -> Result<usize, Memory>
     ensures { IfOk result (λ n. n ≡ level + 1) }
 {

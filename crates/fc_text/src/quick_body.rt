@@ -140,8 +140,8 @@ impl Shortcut {
         Some(())
     }
 
-    // An operation that holds PATH-DATA, behind its line.
-    fn places(&mut self, kind: OperKind, ahead: &mut Ahead) -> Option<()>
+    // What follows the line of an operation that holds PATH-DATA.
+    fn operation_paths(&mut self, kind: OperKind, ahead: &mut Ahead) -> Option<()>
         ensures { IfSome result (λ _. Made (SomeOf (ProperPath kind 16)) (flat_map (λ p. path_lines p 3)) (λ ps. oper_written (Paths kind ps)) ahead.old ahead.new self.old.writer self.new.writer) }
     {
         let begun = begin(&mut self.writer, kind.number())?;
@@ -149,7 +149,7 @@ impl Shortcut {
         end(&mut self.writer, begun)
     }
 
-    // A COMMIT-RESPONSE, behind its line.
+    // What follows the line of a COMMIT-RESPONSE.
     fn response(&mut self, ahead: &mut Ahead) -> Option<()>
         ensures { IfSome result (λ _. (code : ℕ) × InFront (code_line 3 code ∷ []) ahead.old ahead.new × Pushed (Ok tt) self.old.writer self.new.writer (wrapped types.commit_response (result_written code))) }
     {
@@ -163,7 +163,7 @@ impl Shortcut {
     {
         let operation = ahead.oper_line(message)?;
         match operation {
-            Operation::Paths(kind) => self.places(kind, ahead),
+            Operation::Paths(kind) => self.operation_paths(kind, ahead),
             Operation::Commit => write_empty(&mut self.writer, COMMIT),
             Operation::Trcomp => write_empty(&mut self.writer, TRCOMP),
             Operation::CommitResponse => self.response(ahead),

@@ -68,7 +68,7 @@ fn first_word(bytes: &[u8]) -> (&[u8], &[u8])
     bytes.split_at(word_len(bytes))
 }
 
-// The number of a decimal word behind a space, and what stands behind it.
+// The number of a decimal word behind a space, and what follows it.
 #[inline(always)]
 fn number(bytes: &[u8]) -> Option<(u32, &[u8])>
     ensures words { IfSome result (λ x. WordsInFront (decimal_word x.0 ∷ []) bytes.now x.1.now) }
@@ -111,7 +111,7 @@ fn sixteen_digits<'a>(label: &[u8], bytes: &'a [u8]) -> Option<(u64, &'a [u8])>
     Some((number, rest))
 }
 
-// The type of the message that a word names, and what stands behind it.
+// The type of the message that a word names, and what follows it.
 #[inline(always)]
 fn message_word(bytes: &[u8]) -> Option<(u8, &[u8])>
     ensures { IfSome result (λ x. (text : List ℕ) × (message_of text ≡ Some x.0) × (bytes.now ≡ text ++ x.1.now)) }

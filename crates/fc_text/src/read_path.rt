@@ -1,6 +1,6 @@
 // Reading PATH-DATA from lines.
 ghost use Rattle.std.specs.Prelude.{◌≡◌, ◌≤◌, ◌<◌, ◌+◌, ◌&&◌, not, length, OnOk};
-ghost use Rattle.fc_text.specs.TextPlaces.{Reads, TextTells};
+ghost use Rattle.fc_text.specs.TextPlaces.{Gives, Reads};
 ghost use Rattle.fc_path.specs.Kinds.{takes_nothing};
 ghost use Rattle.fc_text.specs.LineWords.{stands_at};
 ghost use Rattle.fc_text.specs.TextReading.{body_at, body_by, code_in, ilv_at, key_in, last_body, leaf_in, many_at, outcome_at, path_by, path_line, paths_by, steps_in};
@@ -17,7 +17,7 @@ use std::alloc::Global;
 // The number and the value of a key, with which its line ends.
 #[tactic(auto, unfolding(crate::specs::TextReading::key_in))]
 fn read_key(alloc: Global, mut words: Words) -> Result<Key, TextFault>
-    ensures { TextTells (key_in words.entry) result }
+    ensures { Gives result (key_in words.entry) }
 {
     let ident = words.decimal()?;
     let value = words.octets(alloc)?;
@@ -28,7 +28,7 @@ fn read_key(alloc: Global, mut words: Words) -> Result<Key, TextFault>
 // The IDs and the key of a PATH-DATA, with which its line ends.
 #[tactic(auto, unfolding(crate::specs::TextReading::steps_in))]
 fn read_steps(alloc: Global, mut words: Words) -> Result<(List<u32>, Option<Key>), TextFault>
-    ensures { TextTells (steps_in words.entry) result }
+    ensures { Gives result (steps_in words.entry) }
 {
     let mut ids = List::new(alloc);
     'words: while let Some(word) = words.next() {
@@ -48,7 +48,7 @@ fn read_steps(alloc: Global, mut words: Words) -> Result<(List<u32>, Option<Key>
 #[tactic(auto, unfolding(crate::specs::TextReading::ilv_at))]
 fn read_ilv(alloc: Global, level: usize, lines: &mut Lines) -> Result<Ilv, TextFault>
     requires { level ≤ 20 }
-    ensures exact { Reads (ilv_at level lines.old) result lines.new }
+    ensures exact { Reads result (ilv_at level lines.old) lines.new }
     ensures less { OnOk result (length lines.new.lines < length lines.old.lines) }
 {
     let mut words = lines.take(level)?;
@@ -62,7 +62,7 @@ fn read_ilv(alloc: Global, level: usize, lines: &mut Lines) -> Result<Ilv, TextF
 // The lines of ILVs at a level.
 fn read_ilvs(alloc: Global, level: usize, lines: &mut Lines) -> Result<List<Ilv>, TextFault>
     requires { level ≤ 20 }
-    ensures exact { Reads (many_at level (ilv_at level) lines.old) result lines.new }
+    ensures exact { Reads result (many_at level (ilv_at level) lines.old) lines.new }
     ensures less { OnOk result (length lines.new.lines ≤ length lines.old.lines) }
 {
     let mut ilvs = List::new(alloc);
@@ -76,7 +76,7 @@ fn read_ilvs(alloc: Global, level: usize, lines: &mut Lines) -> Result<List<Ilv>
 // A code, with which its line ends.
 #[tactic(auto, unfolding(crate::specs::TextReading::code_in))]
 fn read_code(mut words: Words) -> Result<Code, TextFault>
-    ensures { TextTells (code_in words.entry) result }
+    ensures { Gives result (code_in words.entry) }
 {
     let code = words.two_digits()?;
     words.end()?;
@@ -87,7 +87,7 @@ fn read_code(mut words: Words) -> Result<Code, TextFault>
 #[tactic(auto, unfolding(crate::specs::TextReading::outcome_at))]
 pub fn read_outcome(level: usize, lines: &mut Lines) -> Result<Code, TextFault>
     requires { level ≤ 20 }
-    ensures exact { Reads (outcome_at level lines.old) result lines.new }
+    ensures exact { Reads result (outcome_at level lines.old) lines.new }
     ensures less { OnOk result (length lines.new.lines < length lines.old.lines) }
 {
     let mut words = lines.take(level)?;
@@ -106,7 +106,7 @@ fn read_leaf(
     lines: &mut Lines,
 ) -> Result<Body, TextFault>
     requires { level < 20 }
-    ensures exact { Reads (leaf_in kind level word.now words.entry lines.old) result lines.new }
+    ensures exact { Reads result (leaf_in kind level word.now words.entry lines.old) lines.new }
     ensures less { OnOk result (length lines.new.lines ≤ length lines.old.lines) }
 {
     if kind.takes_full() && is(word.text, b"full") {
@@ -135,7 +135,7 @@ fn read_last_body(
     lines: &mut Lines,
 ) -> Result<Body, TextFault>
     requires { level < 20 }
-    ensures exact { Reads (last_body kind level lines.old) result lines.new }
+    ensures exact { Reads result (last_body kind level lines.old) lines.new }
     ensures less { OnOk result (length lines.new.lines ≤ length lines.old.lines) }
 {
     if kind.takes_nothing() {
@@ -158,7 +158,7 @@ fn read_path(
     lines: &mut Lines,
 ) -> Result<PathData, TextFault>
     requires { level + depth < 19 }
-    ensures exact { Reads (path_by (body_at kind depth) level words.entry lines.old) result lines.new }
+    ensures exact { Reads result (path_by (body_at kind depth) level words.entry lines.old) lines.new }
     ensures less { OnOk result (length lines.new.lines ≤ length lines.old.lines) }
 {
     let (ids, key) = read_steps(alloc, words)?;
@@ -177,7 +177,7 @@ fn read_path_line(
     lines: &mut Lines,
 ) -> Result<PathData, TextFault>
     requires { level + depth < 19 }
-    ensures exact { Reads (path_line (body_at kind depth) level lines.old) result lines.new }
+    ensures exact { Reads result (path_line (body_at kind depth) level lines.old) lines.new }
     ensures less { OnOk result (length lines.new.lines < length lines.old.lines) }
 {
     let mut words = lines.take(level)?;
@@ -204,7 +204,7 @@ fn read_open_body(
     lines: &mut Lines,
 ) -> Result<Body, TextFault>
     requires { level + depth < 19 }
-    ensures exact { Reads (body_by kind (body_at kind depth) level lines.old) result lines.new }
+    ensures exact { Reads result (body_by kind (body_at kind depth) level lines.old) lines.new }
     ensures less { OnOk result (length lines.new.lines ≤ length lines.old.lines) }
 {
     if is_bare(kind, level, lines) {
@@ -229,7 +229,7 @@ fn read_body(
     lines: &mut Lines,
 ) -> Result<Body, TextFault>
     requires { level + depth < 20 }
-    ensures exact { Reads (body_at kind depth level lines.old) result lines.new }
+    ensures exact { Reads result (body_at kind depth level lines.old) lines.new }
     ensures less { OnOk result (length lines.new.lines ≤ length lines.old.lines) }
 {
     if depth == 0 {
@@ -250,7 +250,7 @@ pub fn read_paths(
     lines: &mut Lines,
 ) -> Result<List<PathData>, TextFault>
     requires { level + depth < 19 }
-    ensures exact { Reads (paths_by (body_at kind depth) level words.entry lines.old) result lines.new }
+    ensures exact { Reads result (paths_by (body_at kind depth) level words.entry lines.old) lines.new }
     ensures less { OnOk result (length lines.new.lines ≤ length lines.old.lines) }
 {
     let mut paths = List::new(alloc);

@@ -1,33 +1,31 @@
 // Reading operations and selects from lines.
 ghost use Rattle.std.specs.Prelude.{◌≡◌, ◌≤◌, ◌<◌, length, OnOk};
 ghost use Rattle.fc_text.specs.TextPlaces.{Reads};
-ghost use Rattle.fc_text.specs.TextReading.{many_at, oper_at as oper_in, operation_at, places_at, select_at as select_in, some_at};
+ghost use Rattle.fc_text.specs.TextReading.{many_at, oper_at as oper_in, operation_at, operation_paths_at, select_at as select_in, some_at};
 
 use crate::TextFault;
 use crate::lines::Lines;
 use crate::read_path::{read_outcome, read_paths};
+use crate::show_path::DEPTH;
 use fc_base::List;
 use fc_path::{Oper, OperKind, Operation, PathData, Select};
 use std::alloc::Global;
 
-// How many PATH-DATA may stand inside of one another, less the outermost.
-const DEPTH: usize = 15;
-
 // The PATH-DATA of an operation, of which there is at least one.
-#[tactic(auto, unfolding(crate::specs::TextReading::places_at))]
-fn read_places(
+#[tactic(auto, unfolding(crate::specs::TextReading::operation_paths_at))]
+fn read_operation_paths(
     alloc: Global,
     kind: OperKind,
     level: usize,
     lines: &mut Lines,
 ) -> Result<List<PathData>, TextFault>
     requires { level ≤ 3 }
-    ensures exact { Reads (places_at kind level lines.old) result lines.new }
+    ensures exact { Reads result (operation_paths_at kind level lines.old) lines.new }
     ensures less { OnOk result (length lines.new.lines < length lines.old.lines) }
 {
     let mut words = lines.take(level)?;
     words.exactly(b"path")?;
-    read_paths(alloc, kind, DEPTH, level, words, lines)
+    read_paths(alloc, kind, DEPTH - 1, level, words, lines)
 }
 
 // What stands below the line of an operation, from a level on.
@@ -38,12 +36,12 @@ fn read_operation(
     lines: &mut Lines,
 ) -> Result<Oper, TextFault>
     requires { level ≤ 3 }
-    ensures exact { Reads (operation_at operation level lines.old) result lines.new }
+    ensures exact { Reads result (operation_at operation level lines.old) lines.new }
     ensures less { OnOk result (length lines.new.lines ≤ length lines.old.lines) }
 {
     match operation {
         Operation::Paths(kind) => {
-            let paths = read_places(alloc, kind, level, lines)?;
+            let paths = read_operation_paths(alloc, kind, level, lines)?;
             Ok(Oper::Paths(kind, paths))
         }
         Operation::Commit => Ok(Oper::Commit),
@@ -59,7 +57,7 @@ fn read_operation(
 #[tactic(auto, unfolding(crate::specs::TextReading::oper_at))]
 fn read_oper(alloc: Global, message: u8, level: usize, lines: &mut Lines) -> Result<Oper, TextFault>
     requires { level ≤ 2 }
-    ensures exact { Reads (oper_in message level lines.old) result lines.new }
+    ensures exact { Reads result (oper_in message level lines.old) lines.new }
     ensures less { OnOk result (length lines.new.lines < length lines.old.lines) }
 {
     let mut words = lines.take(level)?;
@@ -77,7 +75,7 @@ fn read_opers(
     lines: &mut Lines,
 ) -> Result<List<Oper>, TextFault>
     requires { level ≤ 2 }
-    ensures exact { Reads (some_at level (oper_in message level) lines.old) result lines.new }
+    ensures exact { Reads result (some_at level (oper_in message level) lines.old) lines.new }
     ensures less { OnOk result (length lines.new.lines ≤ length lines.old.lines) }
 {
     let mut opers = List::new(alloc);
@@ -99,7 +97,7 @@ fn read_select(
     lines: &mut Lines,
 ) -> Result<Select, TextFault>
     requires { level ≤ 1 }
-    ensures exact { Reads (select_in message level lines.old) result lines.new }
+    ensures exact { Reads result (select_in message level lines.old) lines.new }
     ensures less { OnOk result (length lines.new.lines < length lines.old.lines) }
 {
     let mut words = lines.take(level)?;
@@ -123,7 +121,7 @@ pub fn read_selects(
     lines: &mut Lines,
 ) -> Result<List<Select>, TextFault>
     requires { level ≤ 1 }
-    ensures exact { Reads (many_at level (select_in message level) lines.old) result lines.new }
+    ensures exact { Reads result (many_at level (select_in message level) lines.old) lines.new }
     ensures less { OnOk result (length lines.new.lines ≤ length lines.old.lines) }
 {
     let mut selects = List::new(alloc);
@@ -143,7 +141,7 @@ pub fn read_some_selects(
     lines: &mut Lines,
 ) -> Result<List<Select>, TextFault>
     requires { level ≤ 1 }
-    ensures exact { Reads (some_at level (select_in message level) lines.old) result lines.new }
+    ensures exact { Reads result (some_at level (select_in message level) lines.old) lines.new }
     ensures less { OnOk result (length lines.new.lines ≤ length lines.old.lines) }
 {
     let mut selects = List::new(alloc);

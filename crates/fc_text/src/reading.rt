@@ -1,10 +1,10 @@
 // Text to messages.
-ghost use Rattle.std.specs.Prelude.{◌≡◌, ◌≤◌, ◌<◌, ◌⊎◌, length, true, IfOk, OnOk, List as Listed};
+ghost use Rattle.std.specs.Prelude.{◌≡◌, ◌≤◌, ◌<◌, ◌⊎◌, length, true, Ok, IfOk, OnOk, List as Listed};
 ghost use Rattle.std.specs.List.{AllByRecursion};
 ghost use Rattle.fc_msg.specs.Messages.{IsProper, message_fits};
 ghost use Rattle.fc_msg.specs.declared.message.Message.{Message as Spelled};
 ghost use Rattle.fc_text.specs.FirstMisfit.{FirstMisfit, FitsMessages, IsWithin, TooLongAt};
-ghost use Rattle.fc_text.specs.TextPlaces.{Gives, Reads, RefusedAt, TextTells};
+ghost use Rattle.fc_text.specs.TextPlaces.{Gives, Reads, RefusedAt};
 ghost use Rattle.fc_text.specs.TextGrammar.{SpellsText};
 ghost use Rattle.fc_text.specs.TextReading.{content_at, head_at, message_at, number_at, shut as is_shut, many_at, text_in, whole_at};
 
@@ -20,9 +20,9 @@ use std::alloc::Global;
 /// not fit, with its first word that does not. Hexadecimal digits are taken in either case, and the free bits of flags
 /// are dropped. A message that `encode` refuses does not fit at its first line.
 pub fn read_text(alloc: Global, bytes: &[u8]) -> Result<List<Message>, TextFault>
-    ensures exact { TextTells (text_in bytes.now) result }
+    ensures exact { Gives result (text_in bytes.now) }
     ensures spelled { IfOk result (λ ms. SpellsText ms bytes.now) }
-    ensures only { (ms : Listed Spelled) → SpellsText ms bytes.now → Gives ms result }
+    ensures only { (ms : Listed Spelled) → SpellsText ms bytes.now → Gives result (Ok ms) }
     ensures proper { IfOk result (λ ms. AllByRecursion IsProper ms) }
     ensures fits { IfOk result (λ ms. AllByRecursion (λ m. message_fits m ≡ true) ms) }
     ensures misfit { RefusedAt (λ p. FirstMisfit FitsMessages p bytes.now ⊎ TooLongAt p bytes.now) result }
@@ -33,7 +33,7 @@ pub fn read_text(alloc: Global, bytes: &[u8]) -> Result<List<Message>, TextFault
 
 #[tactic(auto, unfolding(crate::specs::TextReading::text_in))]
 fn read_all(alloc: Global, bytes: &[u8]) -> Result<List<Message>, TextFault>
-    ensures { TextTells (text_in bytes.now) result }
+    ensures { Gives result (text_in bytes.now) }
 {
     let mut lines = Lines::over(bytes);
     let messages = read_messages(alloc, &mut lines)?;
@@ -43,7 +43,7 @@ fn read_all(alloc: Global, bytes: &[u8]) -> Result<List<Message>, TextFault>
 
 // The messages in front of lines.
 fn read_messages(alloc: Global, lines: &mut Lines) -> Result<List<Message>, TextFault>
-    ensures { Reads (many_at 0 message_at lines.old) result lines.new }
+    ensures { Reads result (many_at 0 message_at lines.old) lines.new }
 {
     let mut messages = List::new(alloc);
     'lines: while lines.stands_at(0) {
@@ -56,7 +56,7 @@ fn read_messages(alloc: Global, lines: &mut Lines) -> Result<List<Message>, Text
 // A message that can be encoded.
 #[tactic(auto, unfolding(crate::specs::TextReading::message_at))]
 fn read_message(alloc: Global, lines: &mut Lines) -> Result<Message, TextFault>
-    ensures exact { Reads (message_at lines.old) result lines.new }
+    ensures exact { Reads result (message_at lines.old) lines.new }
     ensures less { OnOk result (length lines.new.lines < length lines.old.lines) }
 {
     let first = lines.misplaced();
@@ -70,7 +70,7 @@ fn read_message(alloc: Global, lines: &mut Lines) -> Result<Message, TextFault>
 /// A message, behind which another begins, or the text ends. Whether it can be encoded is not looked at.
 #[tactic(auto, unfolding(crate::specs::TextReading::whole_at))]
 pub fn read_whole(alloc: Global, lines: &mut Lines) -> Result<Message, TextFault>
-    ensures exact { Reads (whole_at lines.old) result lines.new }
+    ensures exact { Reads result (whole_at lines.old) lines.new }
     ensures less { OnOk result (length lines.new.lines < length lines.old.lines) }
 {
     let head = read_head(lines)?;
@@ -88,7 +88,7 @@ pub fn read_whole(alloc: Global, lines: &mut Lines) -> Result<Message, TextFault
 // That another message begins here, or the text ends.
 #[tactic(auto, unfolding(crate::specs::TextReading::shut))]
 fn shut(lines: &Lines) -> Result<(), TextFault>
-    ensures { TextTells (is_shut lines.now) result }
+    ensures { Gives result (is_shut lines.now) }
 {
     if lines.stands_at(0) {
         return Ok(());
@@ -109,7 +109,7 @@ struct Head {
 // The line of a message.
 #[tactic(auto, unfolding(crate::specs::TextReading::head_at))]
 fn read_head(lines: &mut Lines) -> Result<Head, TextFault>
-    ensures exact { Reads (head_at lines.old) result lines.new }
+    ensures exact { Reads result (head_at lines.old) lines.new }
     ensures less { OnOk result (length lines.new.lines < length lines.old.lines) }
 {
     let mut words = lines.take(0)?;
@@ -131,7 +131,7 @@ fn read_head(lines: &mut Lines) -> Result<Head, TextFault>
 // The line of a number.
 #[tactic(auto, unfolding(crate::specs::TextReading::number_at))]
 fn read_number(name: &[u8], lines: &mut Lines) -> Result<u32, TextFault>
-    ensures exact { Reads (number_at name.now lines.old) result lines.new }
+    ensures exact { Reads result (number_at name.now lines.old) lines.new }
     ensures less { OnOk result (length lines.new.lines ≤ length lines.old.lines) }
 {
     let mut words = lines.take(1)?;
@@ -144,7 +144,7 @@ fn read_number(name: &[u8], lines: &mut Lines) -> Result<u32, TextFault>
 // The body of a message of a type.
 #[tactic(auto, unfolding(crate::specs::TextReading::content_at))]
 fn read_content(alloc: Global, kind: u8, lines: &mut Lines) -> Result<MsgBody, TextFault>
-    ensures exact { Reads (content_at kind lines.old) result lines.new }
+    ensures exact { Reads result (content_at kind lines.old) lines.new }
     ensures less { OnOk result (length lines.new.lines ≤ length lines.old.lines) }
 {
     match kind {

@@ -1,7 +1,7 @@
 // The words of a line, which single spaces part.
 ghost use Rattle.std.specs.Prelude.{◌≡◌, ◌≤◌, ◌<◌, ◌^◌, ◌+◌, codes, length, take, drop, true, Some, None, [], ◌∷◌, option_map};
 ghost use Rattle.std.specs.Str.{bytes_eq};
-ghost use Rattle.fc_text.specs.TextPlaces.{Reads, TextTells, place};
+ghost use Rattle.fc_text.specs.TextPlaces.{Gives, Reads, place};
 ghost use Rattle.fc_text.specs.WordValues.{given, digits_of};
 ghost use Rattle.fc_text.specs.LineWords.{behind_label as label_text, words_from, words_of, words_left, word_in, ended, exactly as this, decimal_in, digits_in, octets_in, labelled_in, labelled_digits, first_word, rest_words};
 ghost use Rattle.fc_text.specs.TextReading.{type_in, operation_in};
@@ -163,11 +163,11 @@ impl<'a> Words<'a> {
         }
     }
 
-    /// The next word. Where there is none, the fault is at the place behind the end of the line.
+    /// The next word. Where there is none, the fault is at the column after the end of the line.
     #[inline(always)]
     #[tactic(auto, unfolding(crate::specs::LineWords::word_in))]
     pub fn word(&mut self) -> Result<Word<'a>, TextFault>
-        ensures exact { Reads (word_in self.old) result self.new }
+        ensures exact { Reads result (word_in self.old) self.new }
         ensures line { self.new.line ≡ self.old.line }
     {
         match self.next() {
@@ -182,7 +182,7 @@ impl<'a> Words<'a> {
     /// Takes the next word, which has to be this one.
     #[tactic(auto, unfolding(crate::specs::LineWords::exactly))]
     pub fn exactly(&mut self, name: &[u8]) -> Result<(), TextFault>
-        ensures { Reads (this name.now self.old) result self.new }
+        ensures { Reads result (this name.now self.old) self.new }
     {
         let word = self.word()?;
         if is(word.text, name) {
@@ -196,7 +196,7 @@ impl<'a> Words<'a> {
     #[inline(always)]
     #[tactic(auto, unfolding(crate::specs::LineWords::ended))]
     pub fn end(mut self) -> Result<(), TextFault>
-        ensures { TextTells (ended self.entry) result }
+        ensures { Gives result (ended self.entry) }
     {
         match self.next() {
             None => Ok(()),
@@ -207,7 +207,7 @@ impl<'a> Words<'a> {
     /// The next word as a decimal number.
     #[tactic(auto, unfolding(crate::specs::LineWords::decimal_in))]
     pub fn decimal(&mut self) -> Result<u32, TextFault>
-        ensures { Reads (decimal_in self.old) result self.new }
+        ensures { Reads result (decimal_in self.old) self.new }
     {
         let word = self.word()?;
         match decimal_of(word.text) {
@@ -219,7 +219,7 @@ impl<'a> Words<'a> {
     /// The next word as two hexadecimal digits.
     #[tactic(auto, unfolding(crate::specs::LineWords::digits_in))]
     pub fn two_digits(&mut self) -> Result<u8, TextFault>
-        ensures { Reads (digits_in 2 self.old) result self.new }
+        ensures { Reads result (digits_in 2 self.old) self.new }
     {
         let word = self.word()?;
         match two_digits_of(word.text) {
@@ -231,7 +231,7 @@ impl<'a> Words<'a> {
     /// The next word as eight hexadecimal digits.
     #[tactic(auto, unfolding(crate::specs::LineWords::digits_in))]
     pub fn eight_digits(&mut self) -> Result<u32, TextFault>
-        ensures { Reads (digits_in 8 self.old) result self.new }
+        ensures { Reads result (digits_in 8 self.old) self.new }
     {
         let word = self.word()?;
         match eight_digits_of(word.text) {
@@ -244,7 +244,7 @@ impl<'a> Words<'a> {
     #[inline(always)]
     #[tactic(auto, unfolding(crate::specs::LineWords::labelled_in))]
     pub fn labelled_eight(&mut self, label: &[u8]) -> Result<u32, TextFault>
-        ensures { Reads (labelled_in label.now 8 self.old) result self.new }
+        ensures { Reads result (labelled_in label.now 8 self.old) self.new }
     {
         let word = self.word()?;
         match labelled_eight_of(label, word.text) {
@@ -257,7 +257,7 @@ impl<'a> Words<'a> {
     #[inline(always)]
     #[tactic(auto, unfolding(crate::specs::LineWords::labelled_in))]
     pub fn labelled_sixteen(&mut self, label: &[u8]) -> Result<u64, TextFault>
-        ensures { Reads (labelled_in label.now 16 self.old) result self.new }
+        ensures { Reads result (labelled_in label.now 16 self.old) self.new }
     {
         let word = self.word()?;
         match labelled_sixteen_of(label, word.text) {
@@ -269,7 +269,7 @@ impl<'a> Words<'a> {
     /// The next word as the name of a message, for which its type stands.
     #[tactic(auto, unfolding(crate::specs::TextReading::type_in))]
     pub fn message(&mut self) -> Result<u8, TextFault>
-        ensures { Reads (type_in self.old) result self.new }
+        ensures { Reads result (type_in self.old) self.new }
     {
         let word = self.word()?;
         match message_named(word.text) {
@@ -281,7 +281,7 @@ impl<'a> Words<'a> {
     /// The next word as the name of an operation that may stand in a message of a type.
     #[tactic(auto, unfolding(crate::specs::TextReading::operation_in))]
     pub fn operation(&mut self, message: u8) -> Result<Operation, TextFault>
-        ensures { Reads (operation_in message self.old) result self.new }
+        ensures { Reads result (operation_in message self.old) self.new }
     {
         let word = self.word()?;
         match operation_named(message, word.text) {
@@ -293,7 +293,7 @@ impl<'a> Words<'a> {
     /// The next word as bytes.
     #[tactic(auto, unfolding(crate::specs::LineWords::octets_in))]
     pub fn octets(&mut self, alloc: Global) -> Result<Octets, TextFault>
-        ensures { Reads (octets_in self.old) result self.new }
+        ensures { Reads result (octets_in self.old) self.new }
     {
         let word = self.word()?;
         match octets_of(alloc, word.text)? {

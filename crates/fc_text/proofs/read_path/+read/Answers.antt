@@ -21,5 +21,5 @@ read_paths-lines-preserved t c = record {
 
 pub read_body-returns-clause-exact : goal.read_body-returns-clause-exact
 read_body-returns-clause-exact t c =
-    subst (λ (r : Result (Body × LinesLeft) TextPlace). Reads r c.read_open_body.result c.read_open_body.new.lines)
+    subst (λ (r : Result (Body × LinesLeft) TextPlace). Reads c.read_open_body.result r c.read_open_body.new.lines)
     (deeper c.args.kind c.args.depth c.args.level c.args.lines.now c.if-depth-eq0.false) c.read_open_body.ensures.exact

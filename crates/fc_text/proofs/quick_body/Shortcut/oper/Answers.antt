@@ -4,7 +4,7 @@ use Rattle.fc_text.proofs.quick_body.Shortcut.oper.Goals as goal
 
 pub returns-in-Paths : goal.returns-in-Paths
 returns-in-Paths c =
-    paths_oper c.args.message c.in_ok-operation.operation c.args.ahead.now c.oper_line.new.self c.places.new.ahead c.args.self.now.writer c.places.new.self.writer c.places.result c.in_ok-operation.ensures c.in-Paths.kind c.in-Paths.is c.places.ensures
+    paths_oper c.args.message c.in_ok-operation.operation c.args.ahead.now c.oper_line.new.self c.operation_paths.new.ahead c.args.self.now.writer c.operation_paths.new.self.writer c.operation_paths.result c.in_ok-operation.ensures c.in-Paths.kind c.in-Paths.is c.operation_paths.ensures
 
 pub returns-in-Commit : goal.returns-in-Commit
 returns-in-Commit c =
