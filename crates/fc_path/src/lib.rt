@@ -24,7 +24,6 @@ pub use laws::{
 pub use oper::{Leaf, Oper, OperKind, Select, Spot, Step};
 pub use path::{Body, Key, PathData};
 pub use read_path::{read_only_outcome, read_outcome};
-pub use read_select::are_bytes;
-pub use results::fits_results;
+pub use results::{fits_results, oper_size, path_size, select_size};
 pub use stray::{beside, is_known_in_select, misplaced, no_more, no_more_bodies};
 pub use write::{put_ids, write_leaf, write_outcome, write_response};

@@ -159,7 +159,7 @@ impl PathData {
 
 /// That the items of a slice of bytes are bytes, for proofs: it does nothing.
 #[inline(always)]
-pub fn are_bytes(bytes: &[u8])
+fn are_bytes(bytes: &[u8])
     ensures { AreBytes bytes.now }
 {}
 

@@ -29,8 +29,10 @@ fn key_size(key: &Option<Key>) -> Option<usize>
     }
 }
 
+/// The bytes of the PATH-DATA that answers one with results alone, a RESULT in each leaf; none exactly where a length in it does not fit
+/// its field.
 #[cycle(size)]
-fn path_size(path: &PathData) -> Option<usize>
+pub fn path_size(path: &PathData) -> Option<usize>
     ensures size { Sized result (path_written (path_results path.now)) }
     ensures small { IfSome result (λ n. n < 65536) }
 {
@@ -82,7 +84,9 @@ fn paths_size(paths: &[PathData]) -> Option<usize>
     Some(sum)
 }
 
-fn oper_size(oper: &Oper) -> Option<usize>
+/// The bytes of the operation that answers one with results alone, with its header, and 0 where no operation answers it; none exactly
+/// where a length in it does not fit its field.
+pub fn oper_size(oper: &Oper) -> Option<usize>
     ensures size { Sized result (joined (map oper_written (oper_results oper.now))) }
     ensures small { IfSome result (λ n. n < 65536) }
 {
@@ -115,7 +119,9 @@ fn opers_size(opers: &[Oper]) -> Option<usize>
     Some(sum)
 }
 
-fn select_size(select: &Select) -> Option<usize>
+/// The bytes of the select that answers one with results alone, with its header, and 0 where no operation of it is answered; none exactly
+/// where a length in it does not fit its field.
+pub fn select_size(select: &Select) -> Option<usize>
     ensures size { Sized result (joined (map select_written (select_results select.now))) }
     ensures small { IfSome result (λ n. n < 65536) }
 {
