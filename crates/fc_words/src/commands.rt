@@ -31,7 +31,7 @@ pub enum Command {
 pub enum WordFault {
     /// The words are no command.
     NoCommand,
-    /// There was no memory.
+    /// Out of memory.
     Memory,
 }
 

@@ -41,7 +41,7 @@ pub(crate) fn element_words<'a>(
     }
 }
 
-// What `clap` makes of five words of which none begins with `-`: it fails only for want of memory.
+// What `clap` makes of five words of which none begins with `-`: it fails only where it is out of memory.
 fn matched<'a>(alloc: Global, words: &'a [String]) -> Result<ArgMatches<'a>, Error>
     requires five { length words.now ≡ 5 }
     requires plain { spec.ArePlain (map string_bytes words.now) }
