@@ -99,10 +99,10 @@ element_decides (Ok end.TooLong) f f' k k' h h' source sink hub read wrote serve
 element_decides (Err WriteFault) f f' k k' h h' source sink hub read wrote served = absurd (wrote sink)
 element_decides (Err NoMemory) f f' k k' h h' source sink hub read wrote served = inr (inr (inr (inr refl)))
 
-pub element_runs : (how : Result ElementEnd Stop) (limit id ce turns status : ℕ) (before left : Option (List ℕ)) (done now : Option Held) (old new : Option (List ℕ)) (f f' k k' h h' : ℕ)
-    → status ≡ element_status how → ElementEnds limit id ce turns how before left done now old new
-    → EndCount element_unread how f f' → SinkCount how k k' → EndCount is_unserved how h h' → ElementRuns limit id ce turns status before left done now old new (Rose f f') (Rose k k') (Rose h h')
-element_runs how limit id ce turns status before left done now old new f f' k k' h h' is ends source sink hub =
+pub element_runs : (how : Result ElementEnd Stop) (limit id ce turns status : ℕ) (before left : Option (List ℕ)) (first last : Option Held) (old new : Option (List ℕ)) (f f' k k' h h' : ℕ)
+    → status ≡ element_status how → ElementEnds limit id ce turns how before left first last old new
+    → EndCount element_unread how f f' → SinkCount how k k' → EndCount is_unserved how h h' → ElementRuns limit id ce turns status before left first last old new (Rose f f') (Rose k k') (Rose h h')
+element_runs how limit id ce turns status before left first last old new f f' k k' h h' is ends source sink hub =
     record { ends = (how, is, ends); complete = λ read wrote served. rw is (element_decides how f f' k k' h h' source sink hub read wrote served) }
 
 -- no memory, and nothing was done

@@ -1,5 +1,5 @@
 -- How `element` ends, from how its parts ended.
-use Rattle.std.proofs.Common.{◌≡◌, ◌≢◌, ◌<◌, ℕ, List, length, refl, sym, ap, ◌∙◌, inl, inr, [], codes, Option, Result, Ok, Err}
+use Rattle.std.proofs.Common.{◌≡◌, ◌≢◌, ◌<◌, ℕ, List, length, refl, sym, ap, ◌∙◌, inl, inr, [], codes, Option, Result, Ok, Err, IfOk}
 use Rattle.std.specs.Io.KnownBytes.{Appends, Keeps}
 use Rattle.std.proofs.KnownBytes.{Appends-nil}
 use Rattle.fc_base.specs.Content.{AppendsFront}
@@ -24,7 +24,7 @@ use Rattle.fc_library.specs.Refusals.{refusal_text}
 use Rattle.fc_library.specs.declared.fault.LibFault.{LibFault}
 use Rattle.fc_library.specs.declared.fault.LibFault.TheVariants as fault
 use Rattle.fc_tool.specs.ElementRun.{ActedSo, DocumentEnds, DocumentLacked, DocumentWent, ElementEnds, ElementLacked, ElementWent, HubLacked, IsRun, JudgedSo, LookEnds, MeansLibrary, RunEnds, RunWent, element_text, look_of, refused_text}
-use Rattle.fc_tool.proofs.Endings.{cut_short, flushed_ends, unflushed_ends, widened}
+use Rattle.fc_tool.proofs.Endings.{cut_short, finished_ends, widened}
 
 document_lacks : (limit id ce turns : ℕ) (bytes : List ℕ) (before left : Option (List ℕ)) (old new : Option Held) → LookEnds limit (Ok look.Whole) bytes before left
     → DocumentLacked id ce turns bytes old new → ElementLacked limit id ce turns before left old new
@@ -40,15 +40,10 @@ document_ends how limit id ce turns bytes before left old new text now read ends
     (λ lacked. document_lacks limit id ce turns bytes before left old new read lacked) ends
 
 -- what was written stands after the flush, and where the flush stopped
-pub end_kept : (end : ElementEnd) (limit id ce turns : ℕ) (before left : Option (List ℕ)) (old new : Option Held) (text mid now : Option (List ℕ))
-    → ElementEnds limit id ce turns (Ok end) before left old new text mid → Keeps mid now → ElementEnds limit id ce turns (Ok end) before left old new text now
-end_kept end limit id ce turns before left old new text mid now ends kept =
-    flushed_ends ElementEnd (ElementWent limit id ce turns before left old new) (ElementLacked limit id ce turns before left old new) end text mid now ends kept
-
-pub end_unflushed : (stop : Stop) (end : ElementEnd) (limit id ce turns : ℕ) (before left : Option (List ℕ)) (old new : Option Held) (text mid now : Option (List ℕ))
-    → ElementEnds limit id ce turns (Ok end) before left old new text mid → Keeps mid now → ElementEnds limit id ce turns (Err stop) before left old new text now
-end_unflushed stop end limit id ce turns before left old new text mid now ends kept =
-    unflushed_ends ElementEnd (ElementWent limit id ce turns before left old new) (ElementLacked limit id ce turns before left old new) stop end text mid now ends kept
+pub element_finished : (end : ElementEnd) (how : Result ElementEnd Stop) (limit id ce turns : ℕ) (before left : Option (List ℕ)) (old new : Option Held) (text mid now : Option (List ℕ))
+    → ElementEnds limit id ce turns (Ok end) before left old new text mid → IfOk how (λ last. last ≡ end) → Keeps mid now → ElementEnds limit id ce turns how before left old new text now
+element_finished end how limit id ce turns before left old new text mid now ends is kept =
+    finished_ends ElementEnd (ElementWent limit id ce turns before left old new) (ElementLacked limit id ce turns before left old new) end how text mid now ends is kept
 
 -- ---- over the hub, where the document means a library
 

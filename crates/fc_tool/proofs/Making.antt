@@ -1,5 +1,5 @@
 -- How `make` ends, from how its parts ended, and that a known input has one ending.
-use Rattle.std.proofs.Common.{◌≡◌, ℕ, List, [], ◌++◌, refl, sym, ap, ◌∙◌, Option, Some, Result, Ok, Err}
+use Rattle.std.proofs.Common.{◌≡◌, ℕ, List, [], ◌++◌, refl, sym, ap, ◌∙◌, Option, Some, Result, Ok, Err, IfOk}
 use Rattle.std.specs.Prelude.{⊤}
 use Rattle.std.specs.Io.KnownBytes.{Keeps}
 use Rattle.fc_base.specs.Content.{AppendsFront}
@@ -15,7 +15,7 @@ use Rattle.fc_tool.specs.declared.make.Made.TheVariants.{Done, ReadFault, Refuse
 use Rattle.fc_tool.specs.declared.stops.Stop.{Stop}
 use Rattle.fc_tool.specs.ElementRun.{LookEnds}
 use Rattle.fc_tool.specs.Make.{IsTextOf, IsTold, MakeEnds, MakeLacked, MakeWent, Makes, TextEnds, TextWent, bytes_of, look_of}
-use Rattle.fc_tool.proofs.Endings.{cut_short, flushed_ends, unflushed_ends, widened}
+use Rattle.fc_tool.proofs.Endings.{cut_short, finished_ends, widened}
 use Rattle.fc_tool.proofs.Outcomes.{read_twice, whole_long}
 
 -- ---- the text
@@ -48,14 +48,10 @@ whole_ends how limit bytes before left old new read ends =
     (λ end written went. (bytes, rw went.0 read, went.1)) (λ lacked. (bytes, read.0, read.2)) ends
 
 -- what was written stands after the flush, and where the flush stopped
-pub make_kept : (end : Made) (limit : ℕ) (before left old mid new : Option (List ℕ)) → MakeEnds limit (Ok end) before left old mid → Keeps mid new
-    → MakeEnds limit (Ok end) before left old new
-make_kept end limit before left old mid new ends kept = flushed_ends Made (MakeWent limit before left) (MakeLacked limit before left) end old mid new ends kept
-
-pub make_unflushed : (stop : Stop) (end : Made) (limit : ℕ) (before left old mid new : Option (List ℕ)) → MakeEnds limit (Ok end) before left old mid → Keeps mid new
-    → MakeEnds limit (Err stop) before left old new
-make_unflushed stop end limit before left old mid new ends kept =
-    unflushed_ends Made (MakeWent limit before left) (MakeLacked limit before left) stop end old mid new ends kept
+pub make_finished : (end : Made) (how : Result Made Stop) (limit : ℕ) (before left old mid new : Option (List ℕ)) → MakeEnds limit (Ok end) before left old mid
+    → IfOk how (λ last. last ≡ end) → Keeps mid new → MakeEnds limit how before left old new
+make_finished end how limit before left old mid new ends is kept =
+    finished_ends Made (MakeWent limit before left) (MakeLacked limit before left) end how old mid new ends is kept
 
 -- ---- one ending
 

@@ -1,5 +1,5 @@
 -- What the lines that were written say of the bytes, and how `show` ends from how a piece of its input ended.
-use Rattle.std.proofs.Common.{◌≡◌, ◌≤◌, ◌-◌, ◌+◌, ℕ, List, [], ◌∷◌, ◌++◌, length, take, append_assoc, append-nil, arith, refl, sym, ap, ◌∙◌, inl, inr, Option, Result, Ok, Err, None, Some, length-append}
+use Rattle.std.proofs.Common.{◌≡◌, ◌≤◌, ◌-◌, ◌+◌, ℕ, List, [], ◌∷◌, ◌++◌, length, take, append_assoc, append-nil, arith, refl, sym, ap, ◌∙◌, inl, inr, Option, Result, Ok, Err, None, Some, IfOk, subst, length-append}
 use Rattle.std.specs.Io.KnownBytes.{Appends, Consumes, Keeps, IsAtEnd}
 use Rattle.std.proofs.KnownBytes.{Appends-kept, Appends-nil, Appends-trans, Consumes-trans, Consumes-kept}
 use Rattle.std.proofs.lemmas.List.{take_all, take-append-le}
@@ -185,7 +185,7 @@ too_long_ends limit bytes hs rest piece before mid left old new consumed more is
 -- ---- after the flush
 
 -- what was written stands after the flush
-pub flush_ends : (shown : Shown) (limit : ℕ) (before left old mid new : Option (List ℕ)) → ShowEnds limit (Ok shown) before left old mid → Keeps mid new
+flush_ends : (shown : Shown) (limit : ℕ) (before left old mid new : Option (List ℕ)) → ShowEnds limit (Ok shown) before left old mid → Keeps mid new
     → ShowEnds limit (Ok shown) before left old new
 flush_ends Done limit before left old mid new (bytes, consumed, (end, le, hs, there, lines)) kept =
     (bytes, consumed, (end, le, hs, there, Appends-kept old mid new _ lines kept))
@@ -197,7 +197,7 @@ flush_ends TooLong limit before left old mid new (bytes, consumed, (lt, hs, rest
     (bytes, consumed, (lt, hs, rest, there, partial, Appends-kept old mid new _ lines kept))
 
 -- all was written, and the flush stopped
-pub flush_stops : (shown : Shown) (stop : Stop) (limit : ℕ) (before left old mid new : Option (List ℕ)) → ShowEnds limit (Ok shown) before left old mid → Keeps mid new
+flush_stops : (shown : Shown) (stop : Stop) (limit : ℕ) (before left old mid new : Option (List ℕ)) → ShowEnds limit (Ok shown) before left old mid → Keeps mid new
     → ShowEnds limit (Err stop) before left old new
 flush_stops Done stop limit before left old mid new (bytes, consumed, (end, le, hs, there, lines)) kept = (
   bytes,
@@ -226,3 +226,9 @@ flush_stops Refused stop limit before left old mid new (bytes, consumed, (le, hs
 )
 flush_stops TooLong stop limit before left old mid new (bytes, consumed, (lt, hs, rest, there, partial, lines)) kept =
     (bytes, consumed, (omega arith, (hs, rest, [], there, inl refl, rw append-nil (whole_front old new _ (Appends-kept old mid new _ lines kept)))))
+
+pub show_finished : (shown : Shown) (how : Result Shown Stop) (limit : ℕ) (before left old mid new : Option (List ℕ)) → ShowEnds limit (Ok shown) before left old mid
+    → IfOk how (λ last. last ≡ shown) → Keeps mid new → ShowEnds limit how before left old new
+show_finished shown (Ok last) limit before left old mid new ends is kept =
+    subst (λ e. ShowEnds limit (Ok e) before left old new) (sym is) (flush_ends shown limit before left old mid new ends kept)
+show_finished shown (Err stop) limit before left old mid new ends is kept = flush_stops shown stop limit before left old mid new ends kept

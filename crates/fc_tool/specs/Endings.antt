@@ -11,7 +11,7 @@ abbrev pub CutShort : (E : Type 0) → (E → List ℕ → Type 0) → Option (L
 CutShort E Went old new = (end : E) × (written : List ℕ) × Went end written × AppendsFront old new written
 
 -- How a command ends, where `Went end written` says all that holds of an end but what was written, and `Lacked` what holds where
--- memory lacked before it came to one.
+-- it was out of memory before it came to one.
 abbrev pub CommandEnds : (E : Type 0) → (E → List ℕ → Type 0) → Type 0 → Result E Stop → Option (List ℕ) → Option (List ℕ) → Type 0
 -- all was written
 CommandEnds E Went Lacked (Ok end) old new = (written : List ℕ) × Went end written × Appends old new written

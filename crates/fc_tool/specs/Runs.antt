@@ -14,7 +14,7 @@ use Rattle.fc_tool.specs.Show.{ShowEnds, status_of}
 pub record ShowRuns (limit status : ℕ) (before left old new : Option (List ℕ)) (Unread Unwritten : Type 0) : Type 0 where
   -- what was read, what was written of it, and the status
   pub ends : (how : Result Shown Stop) × (status ≡ status_of how) × ShowEnds limit how before left old new
-  -- without a fault the input alone decides, or memory lacked
+  -- without a fault the input alone decides, or it is out of memory
   pub complete : (Unread → ⊥) → (Unwritten → ⊥) → (status ≡ 0) ⊎ ((status ≡ 6) ⊎ ((status ≡ 12) ⊎ (status ≡ 9)))
 
 -- a run of `make`
@@ -25,5 +25,5 @@ pub record MakeRuns (limit status : ℕ) (before left old new : Option (List ℕ
 -- a run of `element`, with what was done on the hub
 pub record ElementRuns (limit id ce turns status : ℕ) (before left : Option (List ℕ)) (done now : Option Held) (old new : Option (List ℕ)) (Unread Unwritten Unserved : Type 0) : Type 0 where
   pub ends : (how : Result ElementEnd Stop) × (status ≡ element_status how) × ElementEnds limit id ce turns how before left done now old new
-  -- without a fault the input and the events decide, or memory lacked
+  -- without a fault the input and the events decide, or it is out of memory
   pub complete : (Unread → ⊥) → (Unwritten → ⊥) → (Unserved → ⊥) → (status ≡ 0) ⊎ ((status ≡ 10) ⊎ ((status ≡ 5) ⊎ ((status ≡ 12) ⊎ (status ≡ 9))))

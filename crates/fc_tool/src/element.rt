@@ -14,12 +14,11 @@ use crate::acting::NodeStop;
 use crate::input::{Look, look_over};
 use crate::node::Node;
 use crate::serve::{Served, serve};
-use crate::stops::{Stop, finish, put};
+use crate::stops::{Stop, finished, put};
 use fc_base::{CeId, FeId, Sink, Source};
 use fc_element::Element;
 use fc_hub::Hub;
 use fc_library::{LibFault, library_from_slice, refusal};
-use fc_msg::Splitter;
 use std::alloc::Global;
 
 /// How `element` ended, where all was written.
@@ -55,12 +54,8 @@ pub fn element<S: Source, K: Sink, H: Hub>(
     ensures hub { EndCount is_unserved result (H.faults hub.old) (H.faults hub.new) }
     ensures sink { SinkCount result (K.faults out.old) (K.faults out.new) }
 {
-    let end = match element_ends(alloc, fe, ce, turns, input, out, hub) {
-        Ok(end) => end,
-        Err(stop) => return Err(stop),
-    };
-    match finish(out) {
-        Ok(()) => Ok(end),
+    match element_ends(alloc, fe, ce, turns, input, out, hub) {
+        Ok(end) => finished(end, out),
         Err(stop) => Err(stop),
     }
 }
@@ -81,9 +76,9 @@ fn element_ends<S: Source, K: Sink, H: Hub>(
     ensures hub { EndCount is_unserved result (H.faults hub.old) (H.faults hub.new) }
     ensures sink { SinkCount result (K.faults out.old) (K.faults out.new) }
 {
-    let mut held = Splitter::new(alloc);
+    let mut held = Vec::new(alloc);
     match look_over(input, &mut held) {
-        Ok(Look::Whole) => declared_element(alloc, fe, ce, turns, held.rest(), out, hub),
+        Ok(Look::Whole) => declared_element(alloc, fe, ce, turns, held.as_slice(), out, hub),
         Ok(Look::TooLong) => Ok(ElementEnd::TooLong),
         Ok(Look::ReadFault) => Ok(ElementEnd::ReadFault),
         Err(_) => Err(Stop::NoMemory),

@@ -4,7 +4,7 @@ ghost use Rattle.fc_tool.specs.ElementRun.{LookCount, LookEnds};
 ghost use Rattle.fc_tool.specs.Limits.{most_bytes};
 
 use fc_base::{Memory, Source, Trouble};
-use fc_msg::Splitter;
+use fc_msg::read_behind;
 
 /// So many bytes of an input are looked at, and one more shows that there are too many.
 pub const LIMIT: usize = 67_108_864;
@@ -35,16 +35,16 @@ pub fn next_piece(left: usize) -> usize
     if left == 0 { 1 } else { left.min(PIECE) }
 }
 
-/// Reads the input to its end, as far as it is looked at, and holds what was read.
-pub fn look_over<S: Source>(input: &mut S, held: &mut Splitter) -> Result<Look, Memory>
-    requires { held.old ≡ [] }
-    ensures ends { LookEnds most_bytes result held.new (S.left input.old) (S.left input.new) }
+/// Reads the input to its end, as far as it is looked at, into a buffer that holds nothing yet.
+pub fn look_over<S: Source>(input: &mut S, held: &mut Vec<u8>) -> Result<Look, Memory>
+    requires { held.old.items ≡ [] }
+    ensures ends { LookEnds most_bytes result held.new.items (S.left input.old) (S.left input.new) }
     ensures count { LookCount result (S.faults input.old) (S.faults input.new) }
 {
     let mut count = 0usize;
     'reads: for _ in 0..READS {
         let left = LIMIT - count;
-        let given = match held.feed_from(input, next_piece(left)) {
+        let given = match read_behind(held, input, next_piece(left)) {
             Ok(given) => given,
             Err(Trouble::Failed) => return Ok(Look::ReadFault),
             Err(Trouble::Memory) => return Err(Memory),

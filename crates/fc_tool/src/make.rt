@@ -9,9 +9,8 @@ ghost use Rattle.fc_tool.specs.Make.{MakeEnds, TextEnds, is_unread, text_refusal
 ghost use Rattle.fc_tool.specs.Stops.{FlushedAt, SinkCount};
 
 use crate::input::{Look, look_over};
-use crate::stops::{Stop, finish, put};
+use crate::stops::{Stop, finished, put};
 use fc_base::{Memory, Sink, Source};
-use fc_msg::Splitter;
 use fc_text::{TextFault, make_bytes};
 use std::alloc::Global;
 
@@ -35,12 +34,8 @@ pub fn make<S: Source, K: Sink>(alloc: Global, input: &mut S, out: &mut K) -> Re
     ensures source { EndCount is_unread result (S.faults input.old) (S.faults input.new) }
     ensures sink { SinkCount result (K.faults out.old) (K.faults out.new) }
 {
-    let made = match make_all(alloc, input, out) {
-        Ok(made) => made,
-        Err(stop) => return Err(stop),
-    };
-    match finish(out) {
-        Ok(()) => Ok(made),
+    match make_all(alloc, input, out) {
+        Ok(made) => finished(made, out),
         Err(stop) => Err(stop),
     }
 }
@@ -52,9 +47,9 @@ fn make_all<S: Source, K: Sink>(alloc: Global, input: &mut S, out: &mut K) -> Re
     ensures source { EndCount is_unread result (S.faults input.old) (S.faults input.new) }
     ensures sink { SinkCount result (K.faults out.old) (K.faults out.new) }
 {
-    let mut held = Splitter::new(alloc);
+    let mut held = Vec::new(alloc);
     match look_over(input, &mut held) {
-        Ok(Look::Whole) => make_text(alloc, held.rest(), out),
+        Ok(Look::Whole) => make_text(alloc, held.as_slice(), out),
         Ok(Look::TooLong) => Ok(Made::TooLong),
         Ok(Look::ReadFault) => Ok(Made::ReadFault),
         Err(_) => Err(Stop::NoMemory),

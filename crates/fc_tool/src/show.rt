@@ -9,9 +9,9 @@ ghost use Rattle.fc_tool.specs.Stops.{FlushedAt, SinkCount};
 use crate::frames::push_frames;
 use crate::input::{LIMIT, READS, next_piece};
 use crate::line::refusal_line;
-use crate::stops::{Stop, finish, put};
+use crate::stops::{Stop, finished, put};
 use fc_base::{Memory, Sink, Source, Trouble};
-use fc_msg::{MsgFault, Refusal, Splitter, decode};
+use fc_msg::{Refusal, Splitter, headed};
 use std::alloc::Global;
 
 /// How `show` ended, where all was written.
@@ -34,12 +34,8 @@ pub fn show<S: Source, K: Sink>(alloc: Global, input: &mut S, out: &mut K) -> Re
     ensures source { EndCount is_unread result (S.faults input.old) (S.faults input.new) }
     ensures sink { SinkCount result (K.faults out.old) (K.faults out.new) }
 {
-    let shown = match show_all(alloc, input, out) {
-        Ok(shown) => shown,
-        Err(stop) => return Err(stop),
-    };
-    match finish(out) {
-        Ok(()) => Ok(shown),
+    match show_all(alloc, input, out) {
+        Ok(shown) => finished(shown, out),
         Err(stop) => Err(stop),
     }
 }
@@ -131,13 +127,12 @@ fn show_rest<K: Sink>(alloc: Global, fed: usize, rest: &[u8], out: &mut K) -> Re
     if rest.is_empty() {
         return Ok(Shown::Done);
     }
-    match decode(alloc, rest) {
+    match headed(rest) {
         Ok(_) => unreachable!(),
-        Err(MsgFault::At(fault)) => {
-            let line = refusal_line(alloc, fed - rest.len(), fault)?;
+        Err(refusal) => {
+            let line = refusal_line(alloc, fed - rest.len(), refusal)?;
             put(out, line.as_bytes())?;
             Ok(Shown::Refused)
         }
-        Err(MsgFault::Memory) => Err(Stop::NoMemory),
     }
 }

@@ -1,5 +1,5 @@
 // Writing to the sink, and why it stops.
-ghost use Rattle.std.specs.Prelude.{◌≡◌, OnOk, OnErr};
+ghost use Rattle.std.specs.Prelude.{◌≡◌, IfOk, OnOk, OnErr};
 ghost use Rattle.std.specs.Io.KnownBytes.{Appends, Keeps};
 ghost use Rattle.fc_base.specs.Content.{AppendsFront};
 ghost use Rattle.fc_tool.specs.Stops.{FlushedAt, SinkCount};
@@ -49,5 +49,18 @@ pub fn finish<K: Sink>(out: &mut K) -> Result<(), Stop>
         Ok(()) => Ok(()),
         Err(Trouble::Failed) => Err(Stop::WriteFault),
         Err(Trouble::Memory) => Err(Stop::NoMemory),
+    }
+}
+
+/// Flushes what was written, and gives the end that a command came to.
+pub fn finished<E: Copy, K: Sink>(end: E, out: &mut K) -> Result<E, Stop>
+    ensures end { IfOk result (λ last. last ≡ end) }
+    ensures same { Keeps (K.written out.old) (K.written out.new) }
+    ensures flushed { FlushedAt result (K.written out.new) (K.flushed out.old) (K.flushed out.new) }
+    ensures count { SinkCount result (K.faults out.old) (K.faults out.new) }
+{
+    match finish(out) {
+        Ok(()) => Ok(end),
+        Err(stop) => Err(stop),
     }
 }

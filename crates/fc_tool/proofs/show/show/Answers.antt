@@ -1,8 +1,20 @@
-use Rattle.fc_tool.proofs.Shows.{flush_ends, flush_stops}
+use Rattle.std.proofs.Common.{subst}
+use Rattle.fc_tool.specs.declared.show.Shown.{Shown}
+use Rattle.fc_tool.specs.Show.{is_unread}
+use Rattle.fc_tool.specs.Stops.{FlushedAt, SinkCount}
+use Rattle.fc_tool.proofs.Endings.{finished_count}
+use Rattle.fc_tool.proofs.Shows.{show_finished}
 use Rattle.fc_tool.proofs.show.show.Goals as goal
 
-pub returns-in-Ok-finish-clause-ends : goal.returns-in-Ok-finish-clause-ends
-returns-in-Ok-finish-clause-ends g c = flush_ends _ _ _ _ _ _ _ c.in-Ok.ensures.ends c.finish.ensures.same
+pub returns-in-Ok-clause-ends : goal.returns-in-Ok-clause-ends
+returns-in-Ok-clause-ends g c = show_finished c.in-Ok.shown c.finished.result _ _ _ _ _ _ c.in-Ok.ensures.ends c.finished.ensures.end c.finished.ensures.same
 
-pub returns-in-Err-finish-clause-ends : goal.returns-in-Err-finish-clause-ends
-returns-in-Err-finish-clause-ends g c = flush_stops _ c.in-Err-finish.stop _ _ _ _ _ _ c.in-Ok.ensures.ends c.finish.ensures.same
+pub returns-in-Ok-clause-source : goal.returns-in-Ok-clause-source
+returns-in-Ok-clause-source g c = finished_count Shown is_unread c.in-Ok.shown c.finished.result _ _ c.in-Ok.ensures.source c.finished.ensures.end
+
+pub returns-in-Ok-clause-flushed : goal.returns-in-Ok-clause-flushed
+returns-in-Ok-clause-flushed g c =
+    subst (λ n. FlushedAt c.finished.result (g.K.Sink.written c.finished.new.out) n (g.K.Sink.flushed c.finished.new.out)) c.in-Ok.ensures.unflushed c.finished.ensures.flushed
+
+pub returns-in-Ok-clause-sink : goal.returns-in-Ok-clause-sink
+returns-in-Ok-clause-sink g c = subst (λ n. SinkCount c.finished.result n (g.K.Sink.faults c.finished.new.out)) c.in-Ok.ensures.sink c.finished.ensures.count
