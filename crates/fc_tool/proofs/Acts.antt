@@ -45,10 +45,6 @@ is_left NoMemory act acts = tt
 pub until_here : (stop : NodeStop) (a b c : Option Held) (xs : List Act) (act : Act) (ys : List Act) → Acts a b xs → c ≡ b → ActsUntil stop a c (xs ++ act ∷ ys)
 until_here stop a b c xs act ys first same = (xs, act ∷ ys, refl, is_left stop act ys, same ∙ first)
 
--- nothing was done, and there was no memory
-pub until_none : (a b : Option Held) (xs : List Act) → b ≡ a → ActsUntil NoMemory a b xs
-until_none a b xs same = ([], xs, refl, tt, same ∙ acts_none a)
-
 -- one act was to be done, and was not
 pub until_one : (result : Result (Unit {0}) NodeStop) (a b : Option Held) (act : Act) → OnErr result (b ≡ a) → IfErr result (λ stop. ActsUntil stop a b (act ∷ []))
 until_one (Ok x) a b act kept = tt

@@ -73,13 +73,6 @@ pub memory_ends : (stop : Stop) (limit : ℕ) (bytes : List ℕ) (hs : List Mess
 memory_ends stop limit bytes hs rest before mid left old new consumed kept le there lines =
     (bytes, Consumes-kept before mid left bytes consumed kept, (omega arith, stops_here _ _ (take limit bytes) hs rest old new (rw (take_all limit bytes le) there) lines))
 
--- a read failed
-pub read_fault_ends : (limit : ℕ) (bytes : List ℕ) (hs : List Message) (rest : List ℕ) (before mid left old new : Option (List ℕ))
-    → Consumes before mid bytes → Keeps mid left → length bytes ≤ limit → Reaches bytes hs rest → IsPartial rest → Appends old new (text_of hs)
-    → ShowEnds limit (Ok ReadFault) before left old new
-read_fault_ends limit bytes hs rest before mid left old new consumed kept le there partial lines =
-    (bytes, Consumes-kept before mid left bytes consumed kept, (le, hs, rest, there, partial, lines))
-
 -- the end of the input came
 pub rest_ends : (how : Result Shown Stop) (limit : ℕ) (bytes : List ℕ) (hs : List Message) (rest : List ℕ) (fed : ℕ) (before mid left old now new : Option (List ℕ))
     → Consumes before mid bytes → Consumes mid left [] → IsAtEnd left → length bytes ≤ limit → length bytes ≡ fed → Reaches bytes hs rest → IsPartial rest
