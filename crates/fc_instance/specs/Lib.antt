@@ -1,2 +1,4 @@
+pub mod Cells
 pub mod Components
 pub mod Histories
+pub mod Lent

@@ -1,12 +1,14 @@
 // What an instance holds, with what undoes its changes.
 ghost use Rattle.std.specs.Prelude.{◌≡◌, option_map, ◌≤◌, ◌<◌, ◌++◌, ◌∷◌, [], length, slice_get, slice_set, take, drop as dropped, Some, OnOk, OnErr, IfOk, if◌then◌else◌, ◌-◌};
 ghost use Rattle.fc_value.specs.Outcomes.{Gives};
+ghost use Rattle.fc_instance.specs.Cells.{IsShaped, valued};
 ghost use Rattle.fc_instance.specs.Components.{entry_at_cell, entry_at_subscript};
 ghost use Rattle.fc_instance.specs.Histories.{slot_cell, AreHeld, AreRoomier, Fits, FitsAt, FoundKeys, IsRoomyArray, entry_in, HasPlace, IsArray, IsRoomier, entry_at, values_of, takes, with_entry, CanUndo, HasRoom, Undoable, at_slot, swapped, undo, undone};
 
 use crate::components::{EntryPath, entry_at, entry_in};
 use fc_base::{Duplicate, List, Memory, Octets, OpFault};
 use fc_rows::Rows;
+use fc_types::Ty;
 use fc_undo::{Mark, UndoStack};
 use fc_value::Value;
 use std::alloc::Global;
@@ -113,7 +115,25 @@ impl Instance {
     }
 }
 
+impl Slot {
+    /// What stands for a component of a type that has a value: entries where it is an array whose subscripts rise and whose keys
+    /// differ.
+    pub fn of(alloc: Global, ty: &Ty, value: Value) -> Result<Slot, Memory>
+        ensures value { IfOk result (λ slot. valued (slot_cell slot) ≡ Some value) }
+        ensures shaped { IfOk result (λ slot. IsShaped ty.now (slot_cell slot)) }
+    {
+        Err(Memory)
+    }
+}
+
 impl Instance {
+    /// How many marks stand.
+    pub fn marks(&self) -> usize
+        ensures { result ≡ length self.now.held }
+    {
+        self.marks.len()
+    }
+
     // The entry that is put in a component.
     pub(crate) fn entry_at(
         &self,

@@ -62,9 +62,15 @@ fn rewrite(alloc: Global, ty: &Ty, bytes: &[u8]) -> Result<Vec<u8>, OpFault>
     Ok(written)
 }
 
-// The value of a key as it is written, of the bytes in which it was given.
+/// The value of a key of the fields with these IDs as it is written, of the bytes in which a step gives it. The code is that of
+/// reading them.
 #[tactic(auto, unfolding(crate::specs::Finding::key_in))]
-fn key_bytes(alloc: Global, fields: &[Field], ids: &[u32], bytes: &[u8]) -> Result<Vec<u8>, OpFault>
+pub fn key_bytes(
+    alloc: Global,
+    fields: &[Field],
+    ids: &[u32],
+    bytes: &[u8],
+) -> Result<Vec<u8>, OpFault>
     ensures { Gives (λ v. v.items) result (key_in fields.now ids.now bytes.now) }
 {
     if let [id] = ids {

@@ -7,6 +7,7 @@ mod putting;
 mod removing;
 mod walking;
 
+pub use find::key_bytes;
 pub use merging::merge_value;
 pub use putting::put_value;
 pub use removing::remove_value;
