@@ -1,4 +1,5 @@
 pub mod ColumnLaws
+pub mod Filling
 pub mod IndexKeys
 pub mod Leading
 pub mod RowPlaces

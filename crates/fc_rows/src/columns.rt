@@ -1,6 +1,7 @@
 // The entries of an array that is a component, with an index for each of its keys.
-ghost use Rattle.std.specs.Prelude.{◌≡◌, ◌≤◌, ◌<◌, ◌+◌, ℕ, true, length, map as mapped, option_map, slice_get, Some, IfOk, OnOk, OnErr, if◌then◌else◌};
+ghost use Rattle.std.specs.Prelude.{◌≡◌, ◌≤◌, ◌<◌, ◌+◌, ℕ, true, length, map as mapped, option_map, slice_get, IsTrue, Some, IfOk, OnOk, OnErr, if◌then◌else◌};
 ghost use Rattle.std.specs.FinMap as map;
+ghost use Rattle.std.specs.Ordering.{nat_cmp};
 ghost use Rattle.fc_types.specs.declared.ty.KeyDecl.{KeyDecl as Keyed};
 ghost use Rattle.fc_value.specs.Keys as keys_spec;
 ghost use Rattle.fc_rows.specs.Columns as columns;
@@ -54,6 +55,44 @@ impl Rows {
             indexes,
             room: 0,
         })
+    }
+
+    /// The entries of an array with these fields and keys, by rising subscript.
+    pub fn of(
+        alloc: Global,
+        fields: List<Field>,
+        keys: List<KeyDecl>,
+        entries: List<(u32, Value)>,
+    ) -> Result<Rows, Memory>
+        requires rising { IsTrue (map.is_sorted nat_cmp entries) }
+        requires apart { keys_spec.keys_differ fields keys entries ≡ true }
+        ensures rows { IfOk result (λ rows. rows.0 ≡ map.from_sorted entries) }
+        ensures shape { IfOk result (λ rows. rows.1.1 ≡ (fields, keys)) }
+    {
+        let mut rows = Rows::new(alloc, fields, keys)?;
+        rows.reserve(entries.len())?;
+        fill(&mut rows, alloc, entries.into_vec())?;
+        Ok(rows)
+    }
+
+    /// A copy, with room for at least as many entries.
+    pub fn copy(&self, alloc: Global) -> Result<Rows, Memory>
+        ensures rows { IfOk result (λ rows. rows.0 ≡ self.now.0) }
+        ensures room { IfOk result (λ rows. self.now.1.0 ≤ rows.1.0) }
+        ensures shape { IfOk result (λ rows. rows.1.1 ≡ self.now.1.1) }
+    {
+        let fields = self.fields.copy()?;
+        let keys = self.keys.copy()?;
+        let mut rows = Rows::of(alloc, fields, keys, self.to_list(alloc)?)?;
+        rows.reserve(self.room.saturating_sub(rows.len()))?;
+        Ok(rows)
+    }
+
+    /// A copy of the entries, by rising subscript.
+    pub fn to_list(&self, alloc: Global) -> Result<List<(u32, Value)>, Memory>
+        ensures { IfOk result (λ es. es ≡ map.entries self.now.0) }
+    {
+        copies(alloc, self.as_slice())
     }
 
     /// What stands at a subscript.
@@ -183,6 +222,31 @@ impl Rows {
         self.swap(subscript, value, entering, leaving.as_slice());
         Ok(())
     }
+}
+
+// Puts entries by rising subscript, no two of which have an equal key, where none stands yet.
+fn fill(rows: &mut Rows, alloc: Global, entries: Vec<(u32, Value)>) -> Result<(), Memory>
+    requires none { rows.old.0 ≡ map.empty }
+    requires rising { IsTrue (map.is_sorted nat_cmp entries.items) }
+    requires apart { keys_spec.keys_differ rows.old.1.1.0 rows.old.1.1.1 entries.items ≡ true }
+    ensures rows { OnOk result (rows.new.0 ≡ map.from_sorted entries.items) }
+    ensures shape { rows.new.1.1 ≡ rows.old.1.1 }
+{
+    for (subscript, value) in entries {
+        rows.put(alloc, subscript, Some(value))?;
+    }
+    Ok(())
+}
+
+// Copies of entries, in their order.
+fn copies(alloc: Global, entries: &[(u32, Value)]) -> Result<List<(u32, Value)>, Memory>
+    ensures { IfOk result (λ es. es ≡ entries.now) }
+{
+    let mut others = Vec::with_capacity(alloc, entries.len())?;
+    for (subscript, value) in entries {
+        others.push((*subscript, value.copy()?))?;
+    }
+    Ok(List::from_vec(others))
 }
 
 // The greater of two numbers.
