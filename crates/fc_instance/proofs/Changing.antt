@@ -1,14 +1,12 @@
 -- A change of an entry, and what undoes it.
-use Rattle.std.proofs.Common.{◌≡◌, ℕ, zero, suc, ◌+◌, ◌-◌, ◌<◌, ◌≤◌, Bool, true, false, cond, List, [], ◌∷◌, ◌++◌, length, drop, slice_get, slice_set, slice_index_or, IfOk, OnOk, OnErr, Result, Ok, Err, refl, sym, ap, subst, ◌∙◌, arith, Option, Some, None, option_map, is_some, length-append}
-use Rattle.std.specs.Ordering.{nat_cmp, eq_by_cmp}
-use Rattle.std.specs.Cmp.{nat_cmp_total, unsigned_tied}
-use Rattle.std.specs.FinMap.{entries, entries_sorted, from_sorted, entries-from_sorted, same_entries_map, same_map, nat_cmp-IsAntisymmetric, get, get-insert, get-remove, len, len-insert, len-remove}
+use Rattle.std.proofs.Common.{◌≡◌, ℕ, zero, suc, ◌+◌, ◌<◌, ◌≤◌, Bool, true, false, List, [], ◌∷◌, ◌++◌, length, drop, slice_get, slice_set, slice_index_or, IfOk, OnErr, Result, Ok, Err, refl, sym, ap, subst, ◌∙◌, arith, Option, Some, None, option_map, length-append}
+use Rattle.std.specs.FinMap.{entries, from_sorted, len}
 use Rattle.fc_value.specs.declared.value.Value.TheOpen.{Value-F}
 use Rattle.fc_value.specs.declared.value.Value.TheViews.{out-roll-Value, rolls-Table}
 use Rattle.fc_value.specs.Keys.{keys_differ}
 use Rattle.fc_tree.specs.Finding.{entries_layer, entries_of}
 use Rattle.fc_instance.specs.Histories.{AreHeld, AreRoomier, CanUndo, Fits, FitsAt, FoundKeys, HasPlace, HasRoom, Values, takes, IsArray, IsRoomier, IsRoomyArray, Undoable, at_slot, entry_at, entry_in, entry_put, put_among, slot_cell, swapped, undo, undone, values_at, values_of, with_entry}
-use Rattle.fc_rows.specs.Rowed.{KeysFit, Prepared, RowMap, Seen, Shape, updated}
+use Rattle.fc_rows.specs.Rowed.{Prepared, RowMap, Seen, Shape, updated}
 use Rattle.fc_instance.specs.declared.instance.Inverse.{Inverse}
 use Rattle.fc_instance.specs.declared.instance.Inverse.TheVariants as inverse
 use Rattle.fc_instance.specs.declared.instance.Row.{Row}
@@ -18,7 +16,6 @@ use Rattle.fc_value.specs.declared.value.Value.{Value}
 use Rattle.fc_value.specs.declared.value.Value.TheVariants as value
 use Rattle.fc_rows.proofs.Updating.{fits_alike, map_again, updated_back}
 use Rattle.fc_instance.proofs.Undoing.{undone-append, undoable-join}
-use Rattle.std.proofs.Common.{eqb-true}
 
 -- ---- more room
 same_value : (s t : Slot) → IsRoomier s t → slot_cell t ≡ slot_cell s

@@ -1,4 +1,10 @@
 pub mod Bridge
 pub mod Changing
+pub mod Copied
+pub mod EntryChanges
+pub mod Failing
+pub mod Kept
+pub mod Leads
+pub mod Reaching
 pub mod Rowing
 pub mod Undoing

@@ -1,14 +1,13 @@
 // What an instance holds, with what undoes its changes.
 ghost use Rattle.std.specs.Prelude.{◌≡◌, option_map, ◌≤◌, ◌<◌, ◌++◌, ◌∷◌, [], length, slice_get, slice_set, take, drop as dropped, Some, OnOk, OnErr, IfOk, if◌then◌else◌, ◌-◌};
 ghost use Rattle.fc_value.specs.Outcomes.{Gives};
-ghost use Rattle.fc_instance.specs.Cells.{IsShaped, valued};
 ghost use Rattle.fc_instance.specs.Components.{entry_at_cell, entry_at_subscript};
 ghost use Rattle.fc_instance.specs.Histories.{slot_cell, AreHeld, AreRoomier, Fits, FitsAt, FoundKeys, IsRoomyArray, entry_in, HasPlace, IsArray, IsRoomier, entry_at, values_of, takes, with_entry, CanUndo, HasRoom, Undoable, at_slot, swapped, undo, undone};
 
 use crate::components::{EntryPath, entry_at, entry_in};
+use crate::copies::{copy_slots, undo_copies};
 use fc_base::{Duplicate, List, Memory, Octets, OpFault};
 use fc_rows::Rows;
-use fc_types::Ty;
 use fc_undo::{Mark, UndoStack};
 use fc_value::Value;
 use std::alloc::Global;
@@ -115,23 +114,38 @@ impl Instance {
     }
 }
 
-impl Slot {
-    /// What stands for a component of a type that has a value: entries where it is an array whose subscripts rise and whose keys
-    /// differ.
-    pub fn of(alloc: Global, ty: &Ty, value: Value) -> Result<Slot, Memory>
-        ensures value { IfOk result (λ slot. valued (slot_cell slot) ≡ Some value) }
-        ensures shaped { IfOk result (λ slot. IsShaped ty.now (slot_cell slot)) }
-    {
-        Err(Memory)
-    }
-}
-
 impl Instance {
     /// How many marks stand.
     pub fn marks(&self) -> usize
         ensures { result ≡ length self.now.held }
     {
         self.marks.len()
+    }
+
+    /// A copy of what it holds, without a mark.
+    pub fn copy(&self, alloc: Global) -> Result<Instance, Memory>
+        ensures { IfOk result (λ h. (h.now ≡ self.now.now) × (h.held ≡ [])) }
+    {
+        let slots = copy_slots(alloc, &self.slots)?;
+        Ok(Instance::of(alloc, slots))
+    }
+
+    /// A copy of what it held at a mark, counted from the oldest that stands, without a mark.
+    pub fn copy_at(&self, alloc: Global, mark: usize) -> Result<Instance, Memory>
+        requires { mark < length self.now.held }
+        ensures { IfOk result (λ h. (Some h.now ≡ slice_get self.now.held mark) × (h.held ≡ [])) }
+    {
+        let at = self.marks[mark];
+        let mut slots = copy_slots(alloc, &self.slots)?;
+        undo_copies(alloc, &mut slots, self.log.since(at))?;
+        Ok(Instance::of(alloc, slots))
+    }
+
+    // What stands for a component; none exactly where there is no such component.
+    pub(crate) fn slot(&self, component: usize) -> Option<&Slot>
+        ensures { option_map (λ x. slot_cell x.now) result ≡ slice_get self.now.now component }
+    {
+        self.slots.get(component)
     }
 
     // The entry that is put in a component.
@@ -422,7 +436,7 @@ fn forget(log: &mut UndoStack<Inverse>, mark: Mark)
 }
 
 // Undoes a change. It takes no memory.
-fn undo_one(slots: &mut Vec<Slot>, inverse: Inverse)
+pub(crate) fn undo_one(slots: &mut Vec<Slot>, inverse: Inverse)
     requires { CanUndo inverse slots.old.items }
     ensures { slots.new.items ≡ undo inverse slots.old.items }
 {

@@ -6,7 +6,10 @@ mod components;
 mod copies;
 mod instance;
 mod laws;
+mod leading;
+mod looking;
 mod nodes;
+mod slots;
 
 pub use components::EntryPath;
 pub use instance::{Instance, Inverse, Row, Slot};

@@ -1,10 +1,11 @@
 // A node that is lent: a value, or the entries of an array that is a component.
 ghost use Rattle.std.specs.Prelude.{◌≡◌, ◌++◌, IfOk, IfSome, OnOk, OnErr};
+ghost use Rattle.std.specs.FinMap as map;
 ghost use Rattle.fc_tree.specs.Finding as finding;
 ghost use Rattle.fc_value.specs.Writing.{full_bytes};
 ghost use Rattle.fc_value.specs.declared.value.Value.TheVariants as tables;
 
-use fc_base::{Duplicate, List, Memory};
+use fc_base::{Duplicate, Memory};
 use fc_rows::Rows;
 use fc_types::Ty;
 use fc_value::{Value, write_full};
@@ -45,6 +46,15 @@ impl<'a> Node<'a> {
         }
     }
 
+    // The entries of an array that is a component.
+    pub(crate) fn of_rows(rows: &'a Rows) -> Node<'a>
+        ensures { result ≡ tables.Table (map.entries rows.now.0) }
+    {
+        Node {
+            lent: Lent::Entries(rows),
+        }
+    }
+
     /// The value, where one lies behind the node; none where the entries of an array do.
     pub fn value(&self) -> Option<&Value>
         ensures { IfSome result (λ value. value.now ≡ self.now) }
@@ -74,7 +84,7 @@ impl<'a> Node<'a> {
     {
         match &self.lent {
             Lent::One(value) => value.copy(),
-            Lent::Entries(rows) => table_of(alloc, rows.as_slice()),
+            Lent::Entries(rows) => Ok(Value::Table(rows.to_list(alloc)?)),
         }
     }
 
@@ -86,20 +96,9 @@ impl<'a> Node<'a> {
         match &self.lent {
             Lent::One(value) => write_full(ty, value, into),
             Lent::Entries(rows) => {
-                let value = table_of(*into.allocator(), rows.as_slice())?;
+                let value = Value::Table(rows.to_list(*into.allocator())?);
                 write_full(ty, &value, into)
             }
         }
     }
-}
-
-// A value of its own of the entries of an array.
-pub fn table_of(alloc: Global, entries: &[(u32, Value)]) -> Result<Value, Memory>
-    ensures { IfOk result (λ value. value ≡ tables.Table entries.now) }
-{
-    let mut others = List::new(alloc);
-    for (subscript, value) in entries {
-        others.push((*subscript, value.copy()?))?;
-    }
-    Ok(Value::Table(others))
 }
