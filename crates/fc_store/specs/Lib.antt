@@ -1,2 +1,4 @@
 pub mod Scopes
 pub mod Spots
+pub mod Stores
+pub mod Trees

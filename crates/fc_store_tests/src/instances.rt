@@ -6,7 +6,6 @@ use fc_base::{Code, List, Memory, OpFault};
 use fc_instance::{EntryPath, Instance, Slot};
 use fc_path::Step;
 use fc_rows::Rows;
-use fc_store::Scopes;
 use fc_types::Ty;
 use fc_value::Value;
 use std::alloc::Global;
@@ -183,26 +182,5 @@ fn a_component_that_was_put_goes_back(rt: HostRuntime) -> Result<(), Fail> {
     assert!(rt; one.entry(0, 3).is_none());
     one.rollback();
     assert!(rt; stands(alloc, &one, 3)?);
-    Ok(())
-}
-
-// Three instances, each with one entry.
-fn three(alloc: Global) -> Result<Scopes, Memory>
-    ensures { IfOk result (λ scopes. length scopes ≡ 3) }
-{
-    let mut instances = Vec::new(alloc);
-    instances.push(instance(alloc, 1)?)?;
-    instances.push(instance(alloc, 1)?)?;
-    instances.push(instance(alloc, 1)?)?;
-    Ok(Scopes::of(instances))
-}
-
-#[test]
-fn some_instances_are_marked(rt: HostRuntime) -> Result<(), Fail> {
-    let alloc = rt.alloc();
-    let mut scopes = three(alloc)?;
-    scopes.mark_for(&[0, 2])?;
-    let last = scopes.get(2).ok_or("an instance")?;
-    assert!(rt; stands(alloc, last, 0)?);
     Ok(())
 }
