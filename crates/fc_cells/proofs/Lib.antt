@@ -1,0 +1,10 @@
+pub mod Beside
+pub mod Finds
+pub mod Keeping
+pub mod Merging
+pub mod Placing
+pub mod Removing
+pub mod Setting
+pub mod Steps
+pub mod Telling
+pub mod Under

@@ -1,0 +1,379 @@
+-- What a DEL takes out.
+use Rattle.std.proofs.Common.{◌≡◌, ℕ, zero, suc, ◌==◌, Bool, true, false, List, [], ◌∷◌, ◌++◌, map, position, find, slice_get, slice_set, bytes_eq, refl, sym, ap, subst, ◌∙◌, Option, Some, None, option_map, option_and_then, Result, Ok, Err, ◌⊎◌, inl, inr, eqb-true}
+use Rattle.std.specs.List.{AllByRecursion, list_all, remove}
+use Rattle.fc_base.specs.Answers.{◌>>=◌}
+use Rattle.fc_path.specs.declared.oper.Step.{Step}
+use Rattle.fc_path.specs.declared.oper.Step.TheVariants as step
+use Rattle.fc_tree.specs.Finding.{by_key, entries_of, invalid_path, key_in, no_component, not_found, or_code, paired, part_at, place_in, place_layer, stepped, walked}
+use Rattle.fc_tree.specs.Removing.{remove_at, remove_at_place, remove_in, remove_part, taken, taken_layer}
+use Rattle.fc_types.specs.Sound.{IsSound, IsSoundInside, SoundLayer}
+use Rattle.fc_types.specs.Types.{field_id, field_ty, fields_layer, fields_of, is_atom, is_atom_layer, is_key}
+use Rattle.fc_types.specs.declared.ty.Field.{Field}
+use Rattle.fc_types.specs.declared.ty.KeyDecl.{KeyDecl}
+use Rattle.fc_types.specs.declared.ty.Ty.{Ty}
+use Rattle.fc_types.specs.declared.ty.Ty.TheOpen.{Ty-F}
+use Rattle.fc_types.specs.declared.ty.Ty.TheViews.{out-Ty}
+use Rattle.fc_types.proofs.Sounds.{level_is_sound}
+use Rattle.fc_value.specs.Fits.{FitsIn, FitsLayer}
+use Rattle.fc_value.specs.FullForm.{AreEntries, AreRising}
+use Rattle.fc_value.specs.Keys.{differ_in, key_value, keys_differ}
+use Rattle.fc_value.specs.Nodes.{child, with_child}
+use Rattle.fc_value.specs.Outcomes.{invalid_parameters}
+use Rattle.fc_value.specs.declared.value.Value.{Value}
+use Rattle.fc_value.specs.declared.value.Value.TheVariants as value
+use Rattle.fc_cells.specs.Cells.{by_ids}
+use Rattle.fc_cells.specs.Places.{id_of, new_place, place, place_behind, place_from}
+use Rattle.fc_cells.proofs.Finds.{Entries, Entry, Found, In, all_in, find_remains, find_rising, find_without, found, found_at, has, in_found, key_free, no_some, none_left, other_test, same_test, some_same}
+use Rattle.fc_cells.proofs.Steps.{Part, Went, array_key, array_part, array_place, behind, behind_is, by_its_key, by_key_bytes, by_some_key, by_subscript, called, key_entry, key_of, no_ok, numbered, ok_same, one_entry, place_by, reached, reached_by, reached_from, struct_part, struct_place, walked_by, walked_id, went, went_on}
+use Rattle.fc_cells.proofs.Beside.{Beside, Level, array_beside, array_level, entries_again, entries_set, paired_is, struct_level}
+use Rattle.fc_cells.proofs.Keeping.{differ_kept, key_kept, keyless}
+use Rattle.fc_cells.proofs.Placing.{part_fits, own_entries, rises}
+use Rattle.fc_cells.proofs.Under.{Through, Under}
+
+-- the entry with a subscript is taken out of an array
+pub record Taken (id : ℕ) (ty : Ty) (v w : Value) : Type 0 where
+  pub entry : Ty
+  pub limit : ℕ
+  pub keys : List KeyDecl
+  pub array : out-Ty ty ≡ Ty-F.Array entry limit keys
+  pub at : ℕ
+  pub placed : position (has id) (entries_of v) ≡ Some at
+  pub left : entries_of w ≡ remove (entries_of v) at
+
+abbrev pub Nothing : Ty → Value → Value → Type 0
+Nothing ty v w = ⊥
+
+abbrev pub Removed : List ℕ → Ty → Value → Value → Type 0
+Removed = Under Taken Nothing
+
+taken_entry : (id i : ℕ) (ty : Ty) (v w : Value) → place_in ty v (step.Id id) ≡ Ok (Some i) → taken i ty v ≡ Ok w → Taken id ty v w
+unfolding taken
+taken_entry id i ty v w p e = by (out-Ty ty) refl
+  where
+    none : (l : Ty-F Ty Field) → out-Ty ty ≡ l → taken_layer i l v ≡ Err invalid_parameters → Taken id ty v w
+    none l q r = no_ok invalid_parameters w (sym r ∙ ap (λ k. taken_layer i k v) (sym q) ∙ e)
+
+    by : (l : Ty-F Ty Field) → out-Ty ty ≡ l → Taken id ty v w
+    by Ty-F.Bool q = none Ty-F.Bool q refl
+    by (Ty-F.Number b g min max) q = none (Ty-F.Number b g min max) q refl
+    by (Ty-F.String n) q = none (Ty-F.String n) q refl
+    by (Ty-F.Octets n) q = none (Ty-F.Octets n) q refl
+    by (Ty-F.Bytes n) q = none (Ty-F.Bytes n) q refl
+    by (Ty-F.Struct fields) q = none (Ty-F.Struct fields) q refl
+    by (Ty-F.Array entry limit keys) q = record {
+      entry = entry;
+      limit = limit;
+      keys = keys;
+      array = q;
+      at = i;
+      placed = ok_same (position (has id) (entries_of v)) (Some i) (sym (array_place ty entry limit keys q v id) ∙ p);
+      left =
+          ap entries_of (sym (ok_same (value.Table (remove (entries_of v) i)) w (sym (ap (λ l. taken_layer i l v) q) ∙ e)))
+          ∙ entries_again (remove (entries_of v) i);
+    }
+
+taken_beside : (id : ℕ) (ty : Ty) (v w : Value) → Taken id ty v w → Beside (λ j. id == j) ty v w
+taken_beside id ty v w t =
+    let f : Found (has id) (entries_of v) t.at = found (has id) (entries_of v) t.at t.placed in
+    array_beside ty t.entry t.limit t.keys t.array (λ j. id == j) v w
+    (λ j n. ap (find (has j)) t.left ∙ find_without (has j) (entries_of v) t.at f.item f.got (other_test f.item.0 id j (eqb-true f.item.0 id f.passes) n))
+    (λ n key is k e m q. ap (find (key_of (fields_of t.entry) key k)) t.left
+    ∙ find_remains (key_of (fields_of t.entry) key k) (entries_of v) t.at f.item e f.got (other_test f.item.0 id e.0 (eqb-true f.item.0 id f.passes) m) q)
+
+-- ---- what is sound of a part
+some_sound : (fields : List Field) (i : ℕ) (t : Ty) → AllByRecursion (λ f. IsSoundInside (field_ty f)) fields → option_map field_ty (slice_get fields i) ≡ Some t → IsSound t
+some_sound [] i t s e = no_some t e
+some_sound (f ∷ fs) zero t s e = subst IsSound (some_same (field_ty f) t e) s.0.sound
+some_sound (f ∷ fs) (suc i) t s e = some_sound fs i t s.1 e
+
+-- a step leads on only from a struct or an array
+leads_on : (ty : Ty) (v : Value) (s : Step) (o : Option ℕ) → place_in ty v s ≡ Ok o → is_atom ty ≡ false
+unfolding place_in
+leads_on ty v s o p = by (out-Ty ty) refl
+  where
+    none : (l : Ty-F Ty Field) → out-Ty ty ≡ l → place_layer l v s ≡ Err invalid_path → is_atom ty ≡ false
+    none l q r = no_ok invalid_path o (sym r ∙ ap (λ k. place_layer k v s) (sym q) ∙ p)
+
+    by : (l : Ty-F Ty Field) → out-Ty ty ≡ l → is_atom ty ≡ false
+    by Ty-F.Bool q = none Ty-F.Bool q refl
+    by (Ty-F.Number b g min max) q = none (Ty-F.Number b g min max) q refl
+    by (Ty-F.String n) q = none (Ty-F.String n) q refl
+    by (Ty-F.Octets n) q = none (Ty-F.Octets n) q refl
+    by (Ty-F.Bytes n) q = none (Ty-F.Bytes n) q refl
+    by (Ty-F.Struct fields) q = ap is_atom_layer q
+    by (Ty-F.Array entry limit keys) q = ap is_atom_layer q
+
+-- a DEL below a part
+pub record Below (ids : List ℕ) (id : ℕ) (ty : Ty) (v w : Value) : Type 0 where
+  pub at : ℕ
+  pub placed : place_in ty v (step.Id id) ≡ Ok (Some at)
+  pub part : Ty
+  pub old : Value
+  pub new : Value
+  pub here : part_at at ty v ≡ Some (part, old)
+  pub made : remove_in (by_ids ids) part old ≡ Ok new
+  pub is : with_child at new v ≡ w
+
+below : (id j : ℕ) (ids : List ℕ) (ty : Ty) (v w : Value) → remove_in (by_ids (id ∷ j ∷ ids)) ty v ≡ Ok w → Below (j ∷ ids) id ty v w
+below id j ids ty v w e = by (place_in ty v (step.Id id)) refl e
+  where
+    last : (i : ℕ) → place_in ty v (step.Id id) ≡ Ok (Some i) → (x : Ty × Value) → part_at i ty v ≡ Some x → (r : Result Value ℕ) → remove_in (by_ids (j ∷ ids)) x.0 x.1 ≡ r
+        → (r >>= λ u. Ok (with_child i u v)) ≡ Ok w → Below (j ∷ ids) id ty v w
+    last i p x q (Err c) m e = no_ok c w e
+    last i p x q (Ok u) m e = record { at = i; placed = p; part = x.0; old = x.1; new = u; here = q; made = m; is = ok_same (with_child i u v) w e }
+
+    next : (i : ℕ) → place_in ty v (step.Id id) ≡ Ok (Some i) → (o : Option (Ty × Value)) → part_at i ty v ≡ o → remove_part (remove_in (by_ids (j ∷ ids))) i ty v o ≡ Ok w → Below (j ∷ ids) id ty v w
+    next i p None q e = no_ok invalid_path w e
+    next i p (Some x) q e = last i p x q (remove_in (by_ids (j ∷ ids)) x.0 x.1) refl e
+
+    by : (r : Result (Option ℕ) ℕ) → place_in ty v (step.Id id) ≡ r → r >>= remove_at_place (remove_in (by_ids (j ∷ ids))) (by_ids (j ∷ ids)) ty v ≡ Ok w → Below (j ∷ ids) id ty v w
+    by (Err c) p e = no_ok c w e
+    by (Ok None) p e = no_ok not_found w e
+    by (Ok (Some i)) p e = next i p (part_at i ty v) refl e
+
+-- where a DEL goes on there is a struct or an array
+goes_on : (ids : List ℕ) (j : ℕ) (ty : Ty) (v w : Value) → remove_in (by_ids (j ∷ ids)) ty v ≡ Ok w → is_atom ty ≡ false
+goes_on ids j ty v w e = by (place_in ty v (step.Id j)) refl e
+  where
+    by : (r : Result (Option ℕ) ℕ) → place_in ty v (step.Id j) ≡ r → r >>= remove_at_place (remove_in (by_ids ids)) (by_ids ids) ty v ≡ Ok w → is_atom ty ≡ false
+    by (Err c) p e = no_ok c w e
+    by (Ok o) p e = leads_on ty v (step.Id j) o p
+
+at_field : (i : ℕ) (o : Option ℕ) → or_code no_component (option_map Some o) ≡ Ok (Some i) → o ≡ Some i
+at_field i None e = no_ok no_component (Some i) e
+at_field i (Some k) e = ok_same (Some k) (Some i) e
+
+some_type : (o : Option Field) (t : Ty) → option_map field_ty o ≡ Some t → (g : Field) × (o ≡ Some g) × (field_ty g ≡ t)
+some_type None t e = no_some t e
+some_type (Some g) t e = (g, refl, some_same (field_ty g) t e)
+
+no_array : {X : Type 0} (fields : List Field) (entry : Ty) (limit : ℕ) (keys : List KeyDecl) → ◌≡◌ {A = Ty-F Ty Field} (Ty-F.Struct fields) (Ty-F.Array entry limit keys) → X
+no_array fields entry limit keys e = absurd (cc)
+
+-- an entry from whose inside something is taken keeps its keys
+entry_keys : (j : ℕ) (ids : List ℕ) (entry : Ty) (v w : Value) → remove_in (by_ids (j ∷ ids)) entry v ≡ Ok w → (key : KeyDecl) → is_key (fields_of entry) key ≡ true → key_value (fields_of entry) key w ≡ key_value (fields_of entry) key v
+entry_keys j ids entry v w e key k = by (out-Ty entry) refl
+  where
+    none : (l : Ty-F Ty Field) → out-Ty entry ≡ l → fields_layer l ≡ [] → key_value (fields_of entry) key w ≡ key_value (fields_of entry) key v
+    none l q r = keyless key (ap (λ (fs : List Field). is_key fs key) (sym (ap fields_layer q ∙ r)) ∙ k)
+
+    not_taken : {X : Type 0} (fields : List Field) → out-Ty entry ≡ Ty-F.Struct fields → (r : Result (Option ℕ) ℕ) → place_in entry v (step.Id j) ≡ r → r >>= remove_at_place (remove_in []) [] entry v ≡ Ok w → X
+    not_taken fields q (Err c) p e = no_ok c w e
+    not_taken fields q (Ok None) p e = no_ok not_found w e
+    not_taken fields q (Ok (Some i)) p e = let t : Taken j entry v w = taken_entry j i entry v w p e in no_array fields t.entry t.limit t.keys (sym q ∙ t.array)
+
+    in_struct : (fields : List Field) → out-Ty entry ≡ Ty-F.Struct fields → (ids : List ℕ) → remove_in (by_ids (j ∷ ids)) entry v ≡ Ok w → key_value fields key w ≡ key_value fields key v
+    in_struct fields q [] e = not_taken fields q (place_in entry v (step.Id j)) refl e
+    in_struct fields q (m ∷ ids) e =
+        let b : Below (m ∷ ids) j entry v w = below j m ids entry v w e in
+        let p : paired (option_map field_ty (slice_get fields b.at)) (child b.at v) ≡ Some (b.part, b.old) = sym (struct_part entry fields q v b.at) ∙ b.here in
+        let parts : (option_map field_ty (slice_get fields b.at) ≡ Some b.part) × (child b.at v ≡ Some b.old) = paired_is (option_map field_ty (slice_get fields b.at)) (child b.at v) b.part b.old p in
+        let g : (g : Field) × (slice_get fields b.at ≡ Some g) × (field_ty g ≡ b.part) = some_type (slice_get fields b.at) b.part parts.0 in
+        let branch : is_atom (field_ty g.0) ≡ false = ap is_atom g.2 ∙ goes_on ids m b.part b.old b.new b.made in
+        let made : is_key fields key ≡ true = ap (λ (fs : List Field). is_key fs key) (sym (ap fields_layer q)) ∙ k in
+        ap (key_value fields key) (sym b.is) ∙ key_kept fields b.at g.0 b.new g.1 branch key made v
+
+    by : (l : Ty-F Ty Field) → out-Ty entry ≡ l → key_value (fields_of entry) key w ≡ key_value (fields_of entry) key v
+    by Ty-F.Bool q = none Ty-F.Bool q refl
+    by (Ty-F.Number b g min max) q = none (Ty-F.Number b g min max) q refl
+    by (Ty-F.String n) q = none (Ty-F.String n) q refl
+    by (Ty-F.Octets n) q = none (Ty-F.Octets n) q refl
+    by (Ty-F.Bytes n) q = none (Ty-F.Bytes n) q refl
+    by (Ty-F.Struct fields) q = subst (λ (fs : List Field). key_value fs key w ≡ key_value fs key v) (sym (ap fields_layer q)) (in_struct fields q ids e)
+    by (Ty-F.Array inner limit keys) q = none (Ty-F.Array inner limit keys) q refl
+
+-- ---- one step down
+level_below : (n : ℕ) (id j : ℕ) (ids : List ℕ) (ty : Ty) (v w : Value) → IsSound ty → FitsIn (suc n) ty v → (b : Below (j ∷ ids) id ty v w) → Level id ty v w b.part b.old b.new × IsSound b.part
+level_below n id j ids ty v w s h b = by (out-Ty ty) refl (level_is_sound ty s) h
+  where
+    none : (l : Ty-F Ty Field) → out-Ty ty ≡ l → is_atom_layer l ≡ true → Level id ty v w b.part b.old b.new × IsSound b.part
+    none l q r = let f : is_atom ty ≡ false = leads_on ty v (step.Id id) (Some b.at) b.placed in let t : is_atom ty ≡ true = ap is_atom_layer q ∙ r in absurd (cc)
+
+    by : (l : Ty-F Ty Field) → out-Ty ty ≡ l → SoundLayer l → FitsLayer (FitsIn n) l v → Level id ty v w b.part b.old b.new × IsSound b.part
+    by Ty-F.Bool q s h = none Ty-F.Bool q refl
+    by (Ty-F.Number c g min max) q s h = none (Ty-F.Number c g min max) q refl
+    by (Ty-F.String m) q s h = none (Ty-F.String m) q refl
+    by (Ty-F.Octets m) q s h = none (Ty-F.Octets m) q refl
+    by (Ty-F.Bytes m) q s h = none (Ty-F.Bytes m) q refl
+    by (Ty-F.Struct fields) q s h =
+        let at : position (called id) fields ≡ Some b.at = at_field b.at (position (called id) fields) (sym (struct_place ty fields q v id) ∙ b.placed) in
+        let p : paired (option_map field_ty (slice_get fields b.at)) (child b.at v) ≡ Some (b.part, b.old) = sym (struct_part ty fields q v b.at) ∙ b.here in
+        let parts : (option_map field_ty (slice_get fields b.at) ≡ Some b.part) × (child b.at v ≡ Some b.old) = paired_is (option_map field_ty (slice_get fields b.at)) (child b.at v) b.part b.old p in
+        (subst (λ (u : Value). Level id ty v u b.part b.old b.new) b.is (struct_level ty fields q id b.at v b.part b.old b.new at b.here), some_sound fields b.at b.part s.each parts.0)
+    by (Ty-F.Array entry limit keys) q s h =
+        let at : position (has id) (entries_of v) ≡ Some b.at = ok_same (position (has id) (entries_of v)) (Some b.at) (sym (array_place ty entry limit keys q v id) ∙ b.placed) in
+        let f : Found (has id) (entries_of v) b.at = found (has id) (entries_of v) b.at at in
+        let same : (entry, f.item.1) ≡ (b.part, b.old) = some_same (entry, f.item.1) (b.part, b.old) (sym (array_part ty entry limit keys q v b.at f.item f.got) ∙ b.here) in
+        let made : remove_in (by_ids (j ∷ ids)) entry f.item.1 ≡ Ok b.new = subst (λ (z : Ty × Value). remove_in (by_ids (j ∷ ids)) z.0 z.1 ≡ Ok b.new) (sym same) b.made in
+        let set : entries_of w ≡ slice_set (entries_of v) b.at (f.item.0, b.new) = ap entries_of (sym b.is) ∙ entries_set v b.at f.item b.new f.got in
+        let old : keys_differ (fields_of entry) keys (entries_of v) ≡ true = ap (keys_differ (fields_of entry) keys) (own_entries n ty entry limit keys q v h) ∙ h.2.keyed in
+        let new : keys_differ (fields_of entry) keys (entries_of w) ≡ true =
+        ap (keys_differ (fields_of entry) keys) set
+        ∙ differ_kept (fields_of entry) keys (entries_of v) b.at f.item b.new f.got s.made (λ key k. entry_keys j ids entry f.item.1 b.new made key k) old in
+        (subst (λ (z : Ty × Value). Level id ty v w z.0 z.1 b.new) same (array_level ty entry limit keys q id b.at v w f.item b.new at f.got f.passes set new), subst IsSound (ap (λ (z : Ty × Value). z.0) same) s.inner.sound)
+
+-- ---- a DEL
+abbrev Removes : List ℕ → Type 0
+Removes ids = (n : ℕ) (ty : Ty) (v w : Value) → IsSound ty → FitsIn n ty v → remove_in (by_ids ids) ty v ≡ Ok w → Removed ids ty v w
+
+last_removed : (id : ℕ) (ty : Ty) (v w : Value) (r : Result (Option ℕ) ℕ) → place_in ty v (step.Id id) ≡ r → r >>= remove_at_place (remove_in []) [] ty v ≡ Ok w → Removed (id ∷ []) ty v w
+last_removed id ty v w (Err c) p e = no_ok c w e
+last_removed id ty v w (Ok None) p e = no_ok not_found w e
+last_removed id ty v w (Ok (Some i)) p e = let t : Taken id ty v w = taken_entry id i ty v w p e in (taken_beside id ty v w t, inl (refl, t))
+
+removed_below : (id j : ℕ) (ids : List ℕ) → Removes (j ∷ ids) → Removes (id ∷ j ∷ ids)
+removed_below id j ids more zero ty v w s h e = absurd h
+removed_below id j ids more (suc n) ty v w s h e =
+    let b : Below (j ∷ ids) id ty v w = below id j ids ty v w e in
+    let l : Level id ty v w b.part b.old b.new × IsSound b.part = level_below n id j ids ty v w s h b in
+    let fits : FitsIn n b.part b.old = part_fits n (step.Id id) ty v (id, b.part, b.old) h (went (step.Id id) ty v (id, b.part, b.old) l.0.before) in
+    (l.0.beside, inr (b.part, b.old, b.new, l.0.before, l.0.after, more n b.part b.old b.new l.1 fits b.made))
+
+pub removed_under : (ids : List ℕ) → Removes ids
+removed_under [] n ty v w s h e = no_ok invalid_parameters w e
+removed_under (id ∷ []) n ty v w s h e = last_removed id ty v w (place_in ty v (step.Id id)) refl e
+removed_under (id ∷ j ∷ ids) n ty v w s h e = removed_below id j ids (removed_under (j ∷ ids)) n ty v w s h e
+
+-- ---- the entry is gone
+head_is : (m : ℕ) (path : List Step) (ty : Ty) (v : Value) (id : ℕ) (ids : List ℕ) → place (step.Id m ∷ path) ty v ≡ Ok (id ∷ ids) → m ≡ id
+head_is m path ty v id ids e = by (place_in ty v (step.Id m)) e
+  where
+    same : (xs : List ℕ) → ◌≡◌ {A = Result (List ℕ) ℕ} (Ok (m ∷ xs)) (Ok (id ∷ ids)) → m ≡ id
+    same xs e = let k : ◌≡◌ {A = List ℕ} (m ∷ xs) (id ∷ ids) = ok_same (m ∷ xs) (id ∷ ids) e in cc
+
+    new : (path : List Step) → new_place path (step.Id m) ≡ Ok (id ∷ ids) → m ≡ id
+    new [] e = same [] e
+    new (t ∷ path) e = no_ok not_found (id ∷ ids) e
+
+    last : (r : Result (List ℕ) ℕ) → (r >>= λ js. Ok (m ∷ js)) ≡ Ok (id ∷ ids) → m ≡ id
+    last (Err c) e = no_ok c (id ∷ ids) e
+    last (Ok js) e = same js e
+
+    part : (o : Option (Ty × Value)) → place_behind (place path) m o ≡ Ok (id ∷ ids) → m ≡ id
+    part None e = no_ok invalid_path (id ∷ ids) e
+    part (Some x) e = last (place path x.0 x.1) e
+
+    by : (r : Result (Option ℕ) ℕ) → r >>= place_from (place path) path (step.Id m) ty v ≡ Ok (id ∷ ids) → m ≡ id
+    by (Err c) e = no_ok c (id ∷ ids) e
+    by (Ok None) e = new path e
+    by (Ok (Some i)) e = part (part_at i ty v) e
+
+none_placed : (p : Entry → Bool) (es : Entries) → find p es ≡ None → position p es ≡ None
+none_placed p es e = by (position p es) refl
+  where
+    by : (o : Option ℕ) → position p es ≡ o → position p es ≡ None
+    by None q = q
+    by (Some i) q =
+        let f : Found p es i = found p es i q in
+        no_some f.item (sym e ∙ sym (found_at p es) ∙ ap (option_and_then (slice_get es)) q ∙ f.got)
+
+module _ (n : ℕ) (id : ℕ) (ty : Ty) (v w : Value) (h : FitsIn (suc n) ty v) (t : Taken id ty v w) where
+  fit : FitsLayer (FitsIn n) (Ty-F.Array t.entry t.limit t.keys) v
+  fit = subst (λ l. FitsLayer (FitsIn n) l v) t.array h
+
+  there : Found (has id) (entries_of v) t.at
+  there = found (has id) (entries_of v) t.at t.placed
+
+  own : there.item.0 ≡ id
+  own = eqb-true there.item.0 id there.passes
+
+  rising : AreRising (entries_of v)
+  rising = rises n ty t.entry t.limit t.keys t.array v fit
+
+  differ : keys_differ (fields_of t.entry) t.keys (entries_of v) ≡ true
+  differ = ap (keys_differ (fields_of t.entry) t.keys) (own_entries n ty t.entry t.limit t.keys t.array v fit) ∙ fit.2.keyed
+
+  by_id_gone : (m : ℕ) → m ≡ id → walked (step.Id m ∷ []) ty w ≡ Err not_found
+  by_id_gone m s =
+      walked_id m [] ty w ∙ ap (λ (r : Result Part ℕ). r >>= went_on []) (by_subscript ty t.entry t.limit t.keys t.array w m)
+      ∙ ap (λ (o : Option Entry). one_entry ty t.entry t.limit t.keys t.array m o >>= went_on [])
+      (ap (find (has m)) t.left ∙ ap (λ (k : ℕ). find (has k) (remove (entries_of v) t.at)) (s ∙ sym own) ∙ none_left (entries_of v) t.at there.item rising there.got)
+
+  -- the one entry with the subscript has the key
+  key_gone : (m : ℕ) (bytes : List ℕ) (key : KeyDecl) → find (numbered m) t.keys ≡ Some key → (k : List ℕ) → key_in (fields_of t.entry) key.fields bytes ≡ Ok k
+      → (e : Entry) → find (key_of (fields_of t.entry) key k) (entries_of v) ≡ Some e → e.0 ≡ id → place_in ty w (step.Key m bytes) ≡ Err not_found
+  key_gone m bytes key is k read e f s =
+      let in_e : In e (entries_of v) × (key_of (fields_of t.entry) key k e ≡ true) = in_found (key_of (fields_of t.entry) key k) (entries_of v) e f in
+      let in_key : In key t.keys × (numbered m key ≡ true) = in_found (numbered m) t.keys key is in
+      let same : e ≡ there.item =
+      some_same e there.item (sym (find_rising (entries_of v) e rising in_e.0) ∙ ap (λ (j : ℕ). find (has j) (entries_of v)) s
+      ∙ sym (found_at (has id) (entries_of v)) ∙ ap (option_and_then (slice_get (entries_of v))) t.placed ∙ there.got) in
+      let free : find (key_of (fields_of t.entry) key k) (remove (entries_of v) t.at) ≡ None =
+      key_free (λ (x : Entry). key_value (fields_of t.entry) key x.1) (entries_of v) t.at there.item k (all_in (differ_in (fields_of t.entry) (entries_of v)) t.keys key differ in_key.0) there.got (ap (key_of (fields_of t.entry) key k) (sym same) ∙ in_e.1) in
+      array_key ty t.entry t.limit t.keys t.array w m bytes ∙ ap (λ (o : Option KeyDecl). by_key (fields_of t.entry) (entries_of w) o bytes) is
+      ∙ ap (λ (r : Result (List ℕ) ℕ). r >>= λ k. or_code not_found (option_map Some (position (key_of (fields_of t.entry) key k) (entries_of w)))) read
+      ∙ ap (λ (o : Option ℕ). or_code not_found (option_map Some o)) (none_placed (key_of (fields_of t.entry) key k) (entries_of w) (ap (find (key_of (fields_of t.entry) key k)) t.left ∙ free))
+
+  by_key_gone : (m : ℕ) (bytes : List ℕ) (x : Part) → reached (step.Key m bytes) ty v ≡ Ok x → x.0 ≡ id → place_in ty w (step.Key m bytes) ≡ Err not_found
+  by_key_gone m bytes x e s = by (find (numbered m) t.keys) refl (sym (by_its_key ty t.entry t.limit t.keys t.array v m bytes) ∙ e)
+    where
+      last : (key : KeyDecl) → find (numbered m) t.keys ≡ Some key → (k : List ℕ) → key_in (fields_of t.entry) key.fields bytes ≡ Ok k → (o : Option Entry) → find (key_of (fields_of t.entry) key k) (entries_of v) ≡ o
+          → key_entry ty t.entry t.limit t.keys t.array o ≡ Ok x → place_in ty w (step.Key m bytes) ≡ Err not_found
+      last key is k read None f e = no_ok not_found x e
+      last key is k read (Some y) f e = key_gone m bytes key is k read y f (ap (λ (z : Part). z.0) (ok_same (y.0, t.entry, y.1) x e) ∙ s)
+
+      next : (key : KeyDecl) → find (numbered m) t.keys ≡ Some key → (r : Result (List ℕ) ℕ) → key_in (fields_of t.entry) key.fields bytes ≡ r → by_key_bytes ty t.entry t.limit t.keys t.array (entries_of v) key r ≡ Ok x
+          → place_in ty w (step.Key m bytes) ≡ Err not_found
+      next key is (Err c) read e = no_ok c x e
+      next key is (Ok k) read e = last key is k read (find (key_of (fields_of t.entry) key k) (entries_of v)) refl e
+
+      by : (o : Option KeyDecl) → find (numbered m) t.keys ≡ o → by_some_key ty t.entry t.limit t.keys t.array (entries_of v) bytes o ≡ Ok x → place_in ty w (step.Key m bytes) ≡ Err not_found
+      by None is e = no_ok invalid_path x e
+      by (Some key) is e = next key is (key_in (fields_of t.entry) key.fields bytes) refl e
+
+  -- the part to which a key leads
+  key_led : (m : ℕ) (bytes : List ℕ) → place (step.Key m bytes ∷ []) ty v ≡ Ok (id ∷ []) → (x : Part) × (reached (step.Key m bytes) ty v ≡ Ok x) × (x.0 ≡ id)
+  key_led m bytes e = by (place_in ty v (step.Key m bytes)) refl e
+    where
+      first : (j : ℕ) → ◌≡◌ {A = Result (List ℕ) ℕ} (Ok (j ∷ [])) (Ok (id ∷ [])) → j ≡ id
+      first j e = let k : ◌≡◌ {A = List ℕ} (j ∷ []) (id ∷ []) = ok_same (j ∷ []) (id ∷ []) e in cc
+
+      last : (i : ℕ) → place_in ty v (step.Key m bytes) ≡ Ok (Some i) → (j : ℕ) → id_of (step.Key m bytes) i v ≡ Ok j → (o : Option (Ty × Value)) → part_at i ty v ≡ o → place_behind (place []) j o ≡ Ok (id ∷ [])
+          → (x : Part) × (reached (step.Key m bytes) ty v ≡ Ok x) × (x.0 ≡ id)
+      last i p j q None o e = no_ok invalid_path (id ∷ []) e
+      last i p j q (Some y) o e = ((j, y.0, y.1), reached_by (step.Key m bytes) ty v (j, y.0, y.1) (record { at = i; placed = p; named = q; part = o }), first j e)
+
+      next : (i : ℕ) → place_in ty v (step.Key m bytes) ≡ Ok (Some i) → (r : Result ℕ ℕ) → id_of (step.Key m bytes) i v ≡ r → (r >>= λ j. place_behind (place []) j (part_at i ty v)) ≡ Ok (id ∷ [])
+          → (x : Part) × (reached (step.Key m bytes) ty v ≡ Ok x) × (x.0 ≡ id)
+      next i p (Err c) q e = no_ok c (id ∷ []) e
+      next i p (Ok j) q e = last i p j q (part_at i ty v) refl e
+
+      by : (r : Result (Option ℕ) ℕ) → place_in ty v (step.Key m bytes) ≡ r → r >>= place_from (place []) [] (step.Key m bytes) ty v ≡ Ok (id ∷ []) → (x : Part) × (reached (step.Key m bytes) ty v ≡ Ok x) × (x.0 ≡ id)
+      by (Err c) p e = no_ok c (id ∷ []) e
+      by (Ok None) p e = no_ok not_found (id ∷ []) e
+      by (Ok (Some i)) p e = next i p (id_of (step.Key m bytes) i v) refl e
+
+  pub step_gone : (s : Step) → place (s ∷ []) ty v ≡ Ok (id ∷ []) → walked (s ∷ []) ty w ≡ Err not_found
+  step_gone (step.Id m) e = by_id_gone m (head_is m [] ty v id [] e)
+  step_gone (step.Key m bytes) e =
+      let l : (x : Part) × (reached (step.Key m bytes) ty v ≡ Ok x) × (x.0 ≡ id) = key_led m bytes e in
+      ap (λ (r : Result (Option ℕ) ℕ). r >>= stepped (walked []) ty w) (by_key_gone m bytes l.0 l.1 l.2)
+
+abbrev Gone : List ℕ → Type 0
+Gone front = (n : ℕ) (id : ℕ) (s : Step) (ty : Ty) (v w : Value) → FitsIn n ty v → Removed (front ++ id ∷ []) ty v w → place (by_ids front ++ s ∷ []) ty v ≡ Ok (front ++ id ∷ []) → walked (by_ids front ++ s ∷ []) ty w ≡ Err not_found
+
+gone_below : (f : ℕ) (front : List ℕ) → Gone front → Gone (f ∷ front)
+gone_below f front more zero id s ty v w h u e = absurd h
+gone_below f front more (suc n) id s ty v w h u e = by u.1
+  where
+    some_left : {X : Type 0} (xs : List ℕ) → (xs ++ id ∷ []) ≡ [] → X
+    some_left [] e = absurd (cc)
+    some_left (x ∷ xs) e = absurd (cc)
+
+    by : (((front ++ id ∷ []) ≡ []) × Taken f ty v w) ⊎ Through (Removed (front ++ id ∷ [])) f ty v w → walked (by_ids (f ∷ front) ++ s ∷ []) ty w ≡ Err not_found
+    by (inl l) = some_left front l.0
+    by (inr m) =
+        let q : Went (step.Id f) ty v (f, m.0, m.1) = went (step.Id f) ty v (f, m.0, m.1) m.3 in
+        let p : (f ≡ f) × (place (by_ids front ++ s ∷ []) m.0 m.1 ≡ Ok (front ++ id ∷ [])) =
+        behind_is f f (place (by_ids front ++ s ∷ []) m.0 m.1) (front ++ id ∷ []) (sym (place_by (step.Id f) (by_ids front ++ s ∷ []) ty v (f, m.0, m.1) q) ∙ e) in
+        walked_id f (by_ids front ++ s ∷ []) ty w ∙ ap (λ (r : Result Part ℕ). r >>= went_on (by_ids front ++ s ∷ [])) m.4
+        ∙ more n id s m.0 m.1 m.2 (part_fits n (step.Id f) ty v (f, m.0, m.1) h q) m.5 p.1
+
+pub gone : (front : List ℕ) → Gone front
+gone [] zero id s ty v w h u e = absurd h
+gone [] (suc n) id s ty v w h u e = by u.1
+  where
+    by : ((◌≡◌ {A = List ℕ} [] []) × Taken id ty v w) ⊎ Through (Removed []) id ty v w → walked (s ∷ []) ty w ≡ Err not_found
+    by (inl l) = step_gone n id ty v w h l.1 s e
+    by (inr m) = absurd m.5
+gone (f ∷ front) n id s ty v w h u e = gone_below f front (gone front) n id s ty v w h u e

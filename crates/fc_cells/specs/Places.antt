@@ -1,0 +1,56 @@
+-- The place to which a path leads: a step by an ID names the field or the entry itself, and a step by a key stands for the
+-- subscript of the entry whose key has the value (RFC 5810, section 7.1, on paths and keys; RFC 5812, section 4.5.3).
+use Rattle.std.specs.Prelude.{ℕ, ◌==◌, Bool, true, false, ◌&&◌, List, [], ◌∷◌, slice_get, option_map, Option, Some, None, Result, Ok, Err, if◌then◌else◌}
+use Rattle.fc_base.specs.Answers.{◌>>=◌}
+use Rattle.fc_path.specs.declared.oper.Step.{Step}
+use Rattle.fc_path.specs.declared.oper.Step.TheVariants as step
+use Rattle.fc_tree.specs.Finding.{entries_of, invalid_path, not_found, or_code, part_at, place_in}
+use Rattle.fc_types.specs.declared.ty.Ty.{Ty}
+use Rattle.fc_value.specs.declared.value.Value.{Value}
+use Rattle.fc_wire.specs.declared.ilvs.Ilv.{Ilv}
+use Rattle.fc_cells.specs.Cells.{by_ids}
+
+-- the ID or subscript that a step stands for, which leads to the part at a position
+abbrev pub id_of : Step → ℕ → Value → Result ℕ ℕ
+id_of (step.Id id) i v = Ok id
+id_of (step.Key id bytes) i v = or_code invalid_path (option_map (λ e. e.0) (slice_get (entries_of v) i))
+
+-- a last step by a subscript that no entry has yet
+abbrev pub new_place : List Step → Step → Result (List ℕ) ℕ
+new_place [] (step.Id id) = Ok (id ∷ [])
+new_place [] (step.Key id bytes) = Err not_found
+new_place (t ∷ ts) s = Err not_found
+
+abbrev pub place_behind : (Ty → Value → Result (List ℕ) ℕ) → ℕ → Option (Ty × Value) → Result (List ℕ) ℕ
+place_behind more id None = Err invalid_path
+place_behind more id (Some x) = more x.0 x.1 >>= λ ids. Ok (id ∷ ids)
+
+abbrev pub place_from : (Ty → Value → Result (List ℕ) ℕ) → List Step → Step → Ty → Value → Option ℕ → Result (List ℕ) ℕ
+place_from more path s ty v None = new_place path s
+place_from more path s ty v (Some i) = id_of s i v >>= λ id. place_behind more id (part_at i ty v)
+
+-- the place to which a path leads, whose last entry may not be there yet, or the code of the first step that leads nowhere
+abbrev pub place : List Step → Ty → Value → Result (List ℕ) ℕ
+place [] ty v = Ok []
+place (s ∷ path) ty v = place_in ty v s >>= place_from (place path) path s ty v
+
+-- what is made by the path of IDs to a place, if there is a place
+abbrev pub at_place : {X : Type 0} → (List Step → Result X ℕ) → Result (List ℕ) ℕ → Result X ℕ
+at_place make found = found >>= λ ids. make (by_ids ids)
+
+abbrev pub is_id : Step → Bool
+is_id (step.Id id) = true
+is_id (step.Key id bytes) = false
+
+-- A path leaves the way to a place by a step to another part, and all its steps before are IDs: so no key by which it goes is that of
+-- an entry in which the place lies. Its own place is given beside it.
+abbrev pub leaves : List ℕ → List Step → List ℕ → Bool
+leaves [] path others = false
+leaves (id ∷ ids) [] others = false
+leaves (id ∷ ids) (s ∷ path) [] = false
+leaves (id ∷ ids) (s ∷ path) (other ∷ others) = if id == other then is_id s && leaves ids path others else true
+
+-- one of the ILVs names the field or the entry
+abbrev pub is_named : List Ilv → ℕ → Bool
+is_named [] id = false
+is_named (ilv ∷ ilvs) id = if ilv.ident == id then true else is_named ilvs id
