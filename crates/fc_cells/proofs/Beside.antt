@@ -1,15 +1,14 @@
 -- What a change of a part leaves beside it.
-use Rattle.std.proofs.Common.{◌≡◌, ℕ, zero, suc, ◌==◌, Bool, true, false, cond, List, [], ◌∷◌, ◌++◌, map, position, find, slice_get, slice_set, bytes_eq, refl, sym, ap, subst, ◌∙◌, arith, Option, Some, None, option_map, option_and_then, Result, Ok, Err, if◌then◌else◌, eqb-true}
-use Rattle.std.specs.List.{remove, list_all}
+use Rattle.std.proofs.Common.{◌≡◌, ℕ, zero, suc, ◌==◌, Bool, true, false, List, [], ◌∷◌, position, find, slice_get, slice_set, bytes_eq, refl, sym, ap, subst, ◌∙◌, arith, Option, Some, None, option_map, option_and_then, Result, Ok, Err, if◌then◌else◌, eqb-true}
+use Rattle.std.specs.List.{list_any}
 use Rattle.std.specs.Ordering.{nat_cmp}
 use Rattle.std.specs.FinMap.Entries.{put}
 use Rattle.fc_base.specs.Answers.{◌>>=◌}
 use Rattle.fc_path.specs.declared.oper.Step.{Step}
 use Rattle.fc_path.specs.declared.oper.Step.TheVariants as step
-use Rattle.fc_tree.specs.Finding.{entries_layer, entries_of, invalid_path, key_in, no_component, not_found, or_code, paired, part_at, part_layer, part_type, place_in, place_layer}
+use Rattle.fc_tree.specs.Finding.{entries_layer, entries_of, invalid_path, key_in, no_component, not_found, or_code, paired, part_at, place_in, place_layer}
 use Rattle.fc_tree.specs.Putting.{already_there, checked, checked_layer, created, created_layer, entered, keyed, no_room}
-use Rattle.fc_types.specs.Ids.{is_distinct}
-use Rattle.fc_types.specs.Types.{field_id, field_ty, fields_of, is_atom, is_atom_layer}
+use Rattle.fc_types.specs.Types.{field_id, field_ty, fields_layer, fields_of, is_atom, is_atom_layer}
 use Rattle.fc_types.specs.declared.ty.Field.{Field}
 use Rattle.fc_types.specs.declared.ty.KeyDecl.{KeyDecl}
 use Rattle.fc_types.specs.declared.ty.Ty.{Ty}
@@ -18,13 +17,15 @@ use Rattle.fc_types.specs.declared.ty.Ty.TheViews.{out-Ty}
 use Rattle.fc_value.specs.Keys.{differ_in, key_value, keys_differ}
 use Rattle.fc_value.specs.Nodes.{child, child_layer, with_child, with_child_layer, with_entry}
 use Rattle.fc_value.specs.Reading.{full_in}
-use Rattle.fc_value.specs.declared.value.Value.{Value, out-Value, roll-Value}
+use Rattle.fc_value.specs.Sparse.{part_layer, part_of}
+use Rattle.fc_value.specs.declared.value.Value.{Value, out-Value}
 use Rattle.fc_value.specs.declared.value.Value.TheOpen.{Value-F}
 use Rattle.fc_value.specs.declared.value.Value.TheVariants as value
 use Rattle.fc_value.specs.declared.value.Value.TheViews.{out-roll-Value, rolls-Table}
-use Rattle.fc_cells.specs.Places.{id_of}
-use Rattle.fc_cells.proofs.Finds.{Entries, Entry, Found, In, all_in, apart, find_distinct, find_put_other, find_put_same, find_remains, find_set_other, find_set_same, find_without, found, found_at, has, in_found, in_put, in_set, no_some, other_test, same_test, some_same, true_false, turned_test}
-use Rattle.fc_cells.proofs.Steps.{Part, Went, array_key, array_part, array_place, by_its_key, by_key_bytes, by_some_key, by_subscript, called, key_entry, key_of, no_ok, numbered, ok_same, one_entry, reached, reached_at, reached_by, reached_from, struct_key, struct_part, struct_place, went}
+use Rattle.fc_cells.specs.Places.{keys_layer, keys_of}
+use Rattle.fc_cells.proofs.Finds.{Entries, Entry, Found, In, all_in, apart, find_distinct, find_put_other, find_put_same, find_set_other, find_set_same, found, found_at, has, in_found, in_got, in_put, in_set, no_some, other_test, some_same}
+use Rattle.fc_cells.proofs.Keeping.{key_beside, nothing_keyed}
+use Rattle.fc_cells.proofs.Steps.{Part, array_part, array_place, by_its_key, by_key_bytes, by_some_key, by_subscript, called, key_entry, key_of, no_ok, numbered, ok_same, one_entry, reached, reached_at, reached_from, struct_key, struct_part, struct_place}
 
 -- ---- children
 get_set : {A : Type 0} (xs : List A) (i : ℕ) (x y : A) → slice_get xs i ≡ Some y → slice_get (slice_set xs i x) i ≡ Some x
@@ -104,11 +105,26 @@ pub record Beside (named : ℕ → Bool) (ty : Ty) (v w : Value) : Type 0 where
   pub branch : is_atom ty ≡ false
   pub stay : Stay named ty v w
 
--- the part with an ID changes, and all beside it stays
-pub record Level (id : ℕ) (ty : Ty) (v w : Value) (t : Ty) (c d : Value) : Type 0 where
+-- keys made of other fields stay
+abbrev pub Kept : ℕ → Ty → Value → Value → Type 0
+Kept id ty v w = (key : KeyDecl) → list_any (λ field. field == id) key.fields ≡ false → key_value (fields_of ty) key w ≡ key_value (fields_of ty) key v
+
+-- at most the part with an ID changes
+pub record Changed (id : ℕ) (ty : Ty) (v w : Value) : Type 0 where
   pub beside : Beside (λ j. id == j) ty v w
+  pub kept : Kept id ty v w
+
+-- a part keeps the value of a key
+abbrev pub KeepsKey : Ty → ℕ → Ty → Value → Value → Type 0
+KeepsKey ty n t c d = (key : KeyDecl) → find (numbered n) (keys_of ty) ≡ Some key → key_value (fields_of t) key d ≡ key_value (fields_of t) key c
+
+-- a part becomes another; by a key whose value it keeps it is found again
+pub record Level (id : ℕ) (ty : Ty) (v w : Value) (t : Ty) (c d : Value) : Type 0 where
+  pub changed : Changed id ty v w
+  pub typed : part_of ty id ≡ Some t
   pub before : reached (step.Id id) ty v ≡ Ok (id, t, c)
   pub after : reached (step.Id id) ty w ≡ Ok (id, t, d)
+  pub by_key : (n : ℕ) (bytes : List ℕ) → KeepsKey ty n t c d → reached (step.Key n bytes) ty v ≡ Ok (id, t, c) → reached (step.Key n bytes) ty w ≡ Ok (id, t, d)
 
 abbrev layer_is_branch : (ty : Ty) (l : Ty-F Ty Field) → out-Ty ty ≡ l → is_atom_layer l ≡ false → is_atom ty ≡ false
 layer_is_branch ty l e b = ap is_atom_layer e ∙ b
@@ -161,6 +177,11 @@ module _ (ty entry : Ty) (limit : ℕ) (keys : List KeyDecl) (array : out-Ty ty 
     pub array_beside : Beside named ty v w
     array_beside = record { branch = array_branch; stay = record { ids = stay_ids; steps = stay_steps } }
 
+  pub array_kept : (id : ℕ) (v w : Value) → Kept id ty v w
+  array_kept id v w key n =
+      let none : fields_of ty ≡ [] = ap fields_layer array in
+      ap (λ (fs : List Field). key_value fs key w) none ∙ nothing_keyed key w ∙ sym (ap (λ (fs : List Field). key_value fs key v) none ∙ nothing_keyed key v)
+
   -- entries that are still there, among ones that differ in their keys
   pub keys_kept : (named : ℕ → Bool) (es fs : Entries) → keys_differ (fields_of entry) keys fs ≡ true → ((e : Entry) → named e.0 ≡ false → In e es → In e fs) → KeepsKeys named es fs
   keys_kept named es fs d there = λ id key is k e f q.
@@ -178,9 +199,42 @@ module _ (ty entry : Ty) (limit : ℕ) (keys : List KeyDecl) (array : out-Ty ty 
     set_keys : KeepsKeys (λ j. id == j) (entries_of v) (entries_of w)
     set_keys = keys_kept (λ j. id == j) (entries_of v) (entries_of w) differ (λ e f h. subst (In e) (sym set) (in_set (entries_of v) i x e d h got (other_test x.0 id e.0 (eqb-true x.0 id own) f)))
 
+    set_in : In (x.0, d) (entries_of w)
+    set_in = subst (In (x.0, d)) (sym set) (in_got (slice_set (entries_of v) i (x.0, d)) i (x.0, d) (get_set (entries_of v) i (x.0, d) x got))
+
+    module _ (n : ℕ) (bytes : List ℕ) (keeps : KeepsKey ty n entry x.1 d) where
+      key_found : (key : KeyDecl) → find (numbered n) keys ≡ Some key → (k : List ℕ) (o : Option Entry) → find (key_of (fields_of entry) key k) (entries_of v) ≡ o
+          → key_entry ty entry limit keys array o ≡ Ok (id, entry, x.1) → key_entry ty entry limit keys array (find (key_of (fields_of entry) key k) (entries_of w)) ≡ Ok (id, entry, d)
+      key_found key is k None f e = no_ok not_found (id, entry, x.1) e
+      key_found key is k (Some y) f e =
+          let same : (y.0, entry, y.1) ≡ (id, entry, x.1) = ok_same (y.0, entry, y.1) (id, entry, x.1) e in
+          let old : In y (entries_of v) × (key_of (fields_of entry) key k y ≡ true) = in_found (key_of (fields_of entry) key k) (entries_of v) y f in
+          let in_keys : In key keys × (numbered n key ≡ true) = in_found (numbered n) keys key is in
+          let new : key_value (fields_of entry) key d ≡ key_value (fields_of entry) key y.1 =
+          keeps key (ap (find (numbered n)) (ap keys_layer array) ∙ is) ∙ sym (ap (λ (z : Part). key_value (fields_of entry) key z.2) same) in
+          let passes : key_of (fields_of entry) key k (x.0, d) ≡ true = ap (λ (b : List ℕ). bytes_eq b k) new ∙ old.1 in
+          ap (key_entry ty entry limit keys array)
+          (find_distinct (λ (e : Entry). key_value (fields_of entry) key e.1) (entries_of w) (x.0, d) k (all_in (differ_in (fields_of entry) (entries_of w)) keys key differ in_keys.0) set_in passes)
+          ∙ ap (λ (m : ℕ). Ok (m, entry, d)) (eqb-true x.0 id own)
+
+      key_read : (key : KeyDecl) → find (numbered n) keys ≡ Some key → (r : Result (List ℕ) ℕ)
+          → by_key_bytes ty entry limit keys array (entries_of v) key r ≡ Ok (id, entry, x.1) → by_key_bytes ty entry limit keys array (entries_of w) key r ≡ Ok (id, entry, d)
+      key_read key is (Err c) e = no_ok c (id, entry, x.1) e
+      key_read key is (Ok k) e = key_found key is k (find (key_of (fields_of entry) key k) (entries_of v)) refl e
+
+      key_known : (o : Option KeyDecl) → find (numbered n) keys ≡ o
+          → by_some_key ty entry limit keys array (entries_of v) bytes o ≡ Ok (id, entry, x.1) → by_some_key ty entry limit keys array (entries_of w) bytes o ≡ Ok (id, entry, d)
+      key_known None is e = no_ok invalid_path (id, entry, x.1) e
+      key_known (Some key) is e = key_read key is (key_in (fields_of entry) key.fields bytes) e
+
+      key_again : reached (step.Key n bytes) ty v ≡ Ok (id, entry, x.1) → reached (step.Key n bytes) ty w ≡ Ok (id, entry, d)
+      key_again e = by_its_key ty entry limit keys array w n bytes ∙ key_known (find (numbered n) keys) refl (sym (by_its_key ty entry limit keys array v n bytes) ∙ e)
+
     pub array_level : Level id ty v w entry x.1 d
     array_level = record {
-      beside = array_beside (λ j. id == j) v w set_finds set_keys;
+      changed = record { beside = array_beside (λ j. id == j) v w set_finds set_keys; kept = array_kept id v w };
+      typed = ap (λ l. part_layer l id) array;
+      by_key = key_again;
       before =
           by_subscript ty entry limit keys array v id
           ∙ ap (one_entry ty entry limit keys array id) (sym (found_at (has id) (entries_of v)) ∙ ap (option_and_then (slice_get (entries_of v))) at ∙ got);
@@ -249,12 +303,19 @@ module _ (ty : Ty) (fields : List Field) (struct : out-Ty ty ≡ Ty-F.Struct fie
   pub beside_field : (id i : ℕ) (v : Value) (d : Value) → position (called id) fields ≡ Some i → KeepsFields (λ j. id == j) v (with_child i d v)
   beside_field id i v d at = λ j f k e. child_beside v i k d (apart (called id) (called j) fields i k (differ_called id j f) at e)
 
+  field_kept : (id i : ℕ) (v : Value) (d : Value) → position (called id) fields ≡ Some i → Kept id ty v (with_child i d v)
+  field_kept id i v d at key n = subst (λ (fs : List Field). key_value fs key (with_child i d v) ≡ key_value fs key v) (sym (ap fields_layer struct)) (key_beside fields id i d at key n v)
+
   pub struct_level : (id i : ℕ) (v : Value) (t : Ty) (c d : Value) → position (called id) fields ≡ Some i → part_at i ty v ≡ Some (t, c) → Level id ty v (with_child i d v) t c d
   struct_level id i v t c d at part =
       let p : paired (option_map field_ty (slice_get fields i)) (child i v) ≡ Some (t, c) = sym (struct_part ty fields struct v i) ∙ part in
       let parts : (option_map field_ty (slice_get fields i) ≡ Some t) × (child i v ≡ Some c) = paired_is (option_map field_ty (slice_get fields i)) (child i v) t c p in
       record {
-        beside = struct_beside (λ j. id == j) v (with_child i d v) (beside_field id i v d at);
+        changed = record { beside = struct_beside (λ j. id == j) v (with_child i d v) (beside_field id i v d at); kept = field_kept id i v d at };
+        typed =
+            ap (λ l. part_layer l id) struct
+            ∙ ap (option_map field_ty) (sym (found_at (called id) fields) ∙ ap (option_and_then (slice_get fields)) at) ∙ parts.0;
+        by_key = λ n bytes k e. no_ok invalid_path (id, t, c) (sym (no_key v n bytes) ∙ e);
         before = by_field v id ∙ ap (one_field v id) at ∙ ap (reached_at id) p;
         after =
             by_field (with_child i d v) id ∙ ap (one_field (with_child i d v) id) at ∙ ap (λ (a : Option Ty). reached_at id (paired a (child i (with_child i d v)))) parts.0
@@ -296,7 +357,7 @@ through id i ty v w t c d placed part check = by (out-Ty ty) refl
 
 -- a new entry
 pub record Entered (id : ℕ) (bytes : List ℕ) (ty : Ty) (v w : Value) : Type 0 where
-  pub beside : Beside (λ j. id == j) ty v w
+  pub changed : Changed id ty v w
   pub part : Ty
   pub new : Value
   pub after : reached (step.Id id) ty w ≡ Ok (id, part, new)
@@ -307,8 +368,11 @@ module _ (id : ℕ) (bytes : List ℕ) (ty : Ty) (v w : Value) (entry : Ty) (lim
   put_one u r e =
       let k : (keys_differ (fields_of entry) keys (put nat_cmp id u (entries_of v)) ≡ true) × (entries_of w ≡ put nat_cmp id u (entries_of v)) = keyed_is (fields_of entry) keys (put nat_cmp id u (entries_of v)) w e in
       record {
-        beside = array_beside ty entry limit keys array (λ j. id == j) v w (λ j f. ap (find (has j)) k.1 ∙ find_put_other (entries_of v) id j u f)
-            (keys_kept ty entry limit keys array (λ j. id == j) (entries_of v) (entries_of w) (ap (keys_differ (fields_of entry) keys) k.1 ∙ k.0) (λ x f h. subst (In x) (sym k.1) (in_put (entries_of v) id u x h f)));
+        changed = record {
+          beside = array_beside ty entry limit keys array (λ j. id == j) v w (λ j f. ap (find (has j)) k.1 ∙ find_put_other (entries_of v) id j u f)
+              (keys_kept ty entry limit keys array (λ j. id == j) (entries_of v) (entries_of w) (ap (keys_differ (fields_of entry) keys) k.1 ∙ k.0) (λ x f h. subst (In x) (sym k.1) (in_put (entries_of v) id u x h f)));
+          kept = array_kept ty entry limit keys array id v w;
+        };
         part = entry;
         new = u;
         after = by_subscript ty entry limit keys array w id ∙ ap (one_entry ty entry limit keys array id) (ap (find (has id)) k.1 ∙ find_put_same (entries_of v) id u);

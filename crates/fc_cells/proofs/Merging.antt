@@ -1,38 +1,39 @@
 -- What a merge changes.
-use Rattle.std.proofs.Common.{◌≡◌, ℕ, zero, suc, ◌==◌, nat_lt, Bool, true, false, ◌||◌, cond, List, [], ◌∷◌, ◌++◌, append_assoc, append-nil, length, map, position, find, slice_get, slice_set, refl, sym, ap, subst, ◌∙◌, Option, Some, None, option_map, option_and_then, Result, Ok, Err, if◌then◌else◌, ◌⊎◌, inl, inr, eqb-true}
+use Rattle.std.proofs.Common.{◌≡◌, ℕ, zero, suc, ◌==◌, nat_lt, Bool, true, false, ◌&&◌, List, [], ◌∷◌, ◌++◌, append_assoc, append-nil, length, position, find, slice_get, refl, sym, ap, subst, ◌∙◌, Option, Some, None, option_map, option_and_then, Result, Ok, Err, if◌then◌else◌, ◌⊎◌, inl, inr, eqb-true}
 use Rattle.std.specs.List.{AllByRecursion, list_any}
 use Rattle.std.specs.Ordering.{nat_cmp}
 use Rattle.std.specs.FinMap.Entries.{put}
 use Rattle.fc_base.specs.Answers.{◌>>=◌}
 use Rattle.fc_path.specs.declared.oper.Step.{Step}
 use Rattle.fc_path.specs.declared.oper.Step.TheVariants as step
-use Rattle.fc_tree.specs.Finding.{entries_of, invalid_path, no_component, not_found, paired, part_at, place_in, walked}
+use Rattle.fc_tree.specs.Finding.{entries_of, not_found, paired, place_in, walked}
 use Rattle.fc_tree.specs.Merging.{limited, merge_at_place, merge_in, merged, merged_fields, merged_layer, merged_rows, with_field}
-use Rattle.fc_tree.specs.Putting.{keyed, no_room, put_part}
-use Rattle.fc_types.specs.Types.{field_id, field_ty, fields_of, is_atom}
+use Rattle.fc_tree.specs.Putting.{keyed, no_room}
+use Rattle.fc_types.specs.Types.{field_id, field_ty, fields_layer, fields_of, is_atom}
 use Rattle.fc_types.specs.declared.ty.Field.{Field}
 use Rattle.fc_types.specs.declared.ty.KeyDecl.{KeyDecl}
 use Rattle.fc_types.specs.declared.ty.Ty.{Ty}
 use Rattle.fc_types.specs.declared.ty.Ty.TheOpen.{Ty-F}
 use Rattle.fc_types.specs.declared.ty.Ty.TheViews.{out-Ty}
-use Rattle.fc_types.proofs.Bools.{neither}
-use Rattle.fc_value.specs.Fits.{EachFits, FitsIn, FitsLayer}
-use Rattle.fc_value.specs.Keys.{keys_differ}
-use Rattle.fc_value.specs.Nodes.{changed, child, child_layer, put_at, with_child}
+use Rattle.fc_types.proofs.Bools.{both, neither, was_false}
+use Rattle.fc_value.specs.Fits.{FitsIn, FitsLayer}
+use Rattle.fc_value.specs.Keys.{key_value, keys_differ}
+use Rattle.fc_value.specs.Nodes.{changed, child, child_layer, put_at}
 use Rattle.fc_value.specs.Outcomes.{invalid_tlv}
 use Rattle.fc_value.specs.Reading.{full_in}
 use Rattle.fc_value.specs.Sparse.{change_in, changes_in, part_layer, part_of, sparse_in, value_of}
 use Rattle.fc_value.specs.Sparse as sparse
 use Rattle.fc_value.specs.declared.value.Value.{Value}
 use Rattle.fc_wire.specs.declared.ilvs.Ilv.{Ilv}
-use Rattle.fc_cells.specs.Cells.{Cell, Node, by_ids, cell, some_cell}
-use Rattle.fc_cells.specs.Places.{is_named, place}
-use Rattle.fc_cells.proofs.Finds.{Entries, Entry, Found, In, apart, find_put_other, find_put_same, found, found_at, has, in_found, in_put, no_some, other_test, same_test, some_same, true_false, turned_test}
-use Rattle.fc_cells.proofs.Steps.{Led, Part, Went, by_subscript, called, led, no_ok, ok_same, one_entry, placed_behind, reached, reached_at, reached_by, walked_id, went, went_on}
+use Rattle.fc_cells.specs.Cells.{Node, by_ids, cell, some_cell}
+use Rattle.fc_cells.specs.Places.{is_made_without, is_named, keys_of, leaves, place, some_part, spares}
+use Rattle.fc_cells.proofs.Finds.{Entries, Entry, Found, In, apart, find_put_other, find_put_same, found, found_at, has, in_put, no_some, other_test, some_same, turned_test}
+use Rattle.fc_cells.proofs.Steps.{Led, Part, Went, by_subscript, called, led, no_ok, numbered, ok_same, one_entry, placed_behind, reached, reached_at, reached_by, walked_id, went, went_on}
 use Rattle.fc_cells.proofs.Beside.{Beside, Level, array_beside, by_field, child_beside, child_set, keyed_is, keys_kept, one_field, struct_beside}
+use Rattle.fc_cells.proofs.Keeping.{key_beside, nothing_keyed}
 use Rattle.fc_cells.proofs.Placing.{field_fits, group_again, part_fits}
 use Rattle.fc_cells.proofs.Setting.{in_part}
-use Rattle.fc_cells.proofs.Under.{Down, Never, Through, Under, above_stays, ahead, branch_cell, down, ids_joined, others_stay, paths_stay}
+use Rattle.fc_cells.proofs.Under.{Down, Keeps, Never, Through, Under, above_stays, along, aside, branch_cell, down, ids_joined}
 
 -- the value at the place has the changes that the ILVs tell
 pub record Merged (ilvs : List Ilv) (ty : Ty) (v w : Value) : Type 0 where
@@ -56,7 +57,7 @@ merge_step id ids more ilvs ty v w (Err c) p e = no_ok c w e
 merge_step id ids more ilvs ty v w (Ok None) p e = no_ok not_found w e
 merge_step id ids more ilvs ty v w (Ok (Some i)) p e =
     let m : (t : Ty) × (c : Value) × (d : Value) × Level id ty v w t c d × (merge_in (by_ids ids) ilvs t c ≡ Ok d) = in_part (merge_in (by_ids ids) ilvs) id i ty v w p e in
-    (m.3.beside, inr (m.0, m.1, m.2, m.3.before, m.3.after, more ilvs m.0 m.1 m.2 m.4))
+    (m.3.changed, inr (m.0, m.1, m.2, m.3, more ilvs m.0 m.1 m.2 m.4))
 
 pub merge_under : (ids : List ℕ) → Made ids
 merge_under [] ilvs ty v w e = merged_here ilvs ty v w (sparse_in ty ilvs) refl e
@@ -356,7 +357,7 @@ puts_are_found (suc n) (id ∷ ids) ilvs ty v w h u = by (λ t c d f m. puts_are
     by : ((t : Ty) (c d : Value) → FitsIn n t c → Merges ilvs ids t c d → AllByRecursion (PutBelow ids t d) ilvs) → ((ids ≡ []) × ⊥) ⊎ Through (Merges ilvs ids) id ty v w → AllByRecursion (PutBelow (id ∷ ids) ty w) ilvs
     by more (inl l) = absurd l.1
     by more (inr m) =
-        put_later id ids ty m.0 w m.2 m.4 ilvs (more m.0 m.1 m.2 (part_fits n (step.Id id) ty v (id, m.0, m.1) h (went (step.Id id) ty v (id, m.0, m.1) m.3)) m.5)
+        put_later id ids ty m.0 w m.2 m.3.after ilvs (more m.0 m.1 m.2 (part_fits n (step.Id id) ty v (id, m.0, m.1) h (went (step.Id id) ty v (id, m.0, m.1) m.3.before)) m.4)
 
 pub unnamed_stay : (ids : List ℕ) (ilvs : List Ilv) (id : ℕ) (others : List ℕ) (ty : Ty) (v w : Value) → Merges ilvs ids ty v w → is_named ilvs id ≡ false
     → walked (by_ids (ids ++ id ∷ others)) ty w ≡ walked (by_ids (ids ++ id ∷ others)) ty v
@@ -367,28 +368,134 @@ unnamed_stay ids ilvs id others ty v w u n =
     ∙ ap (λ (r : Result Part ℕ). r >>= went_on (by_ids others)) (b.stay.ids id n) ∙ sym (walked_id id (by_ids others) d.part d.old) ∙ sym (d.before (by_ids (id ∷ others)))
     ∙ sym (ap (λ (path : List Step). walked path ty v) (ids_joined ids (id ∷ others)))
 
-front_is : (ids : List ℕ) (r : Result (List ℕ) ℕ) (others : List ℕ) → ahead ids r ≡ Ok (ids ++ others) → r ≡ Ok others
-front_is ids (Err c) others e = no_ok c (ids ++ others) e
-front_is ids (Ok xs) others e = ap (λ (ys : List ℕ). Ok ys) (by ids (ok_same (ids ++ xs) (ids ++ others) e))
+-- a key that is made of fields that are not named
+with_kept : (fields : List Field) (key : KeyDecl) (id : ℕ) (u x : Value) → list_any (λ field. field == id) key.fields ≡ false → (o : Option ℕ) → position (called id) fields ≡ o
+    → key_value fields key (with_field o u x) ≡ key_value fields key x
+with_kept fields key id u x n None e = refl
+with_kept fields key id u x n (Some i) e = by (child i x)
   where
-    rest : (id : ℕ) (xs ys : List ℕ) → ◌≡◌ {A = List ℕ} (id ∷ xs) (id ∷ ys) → xs ≡ ys
-    rest id xs ys e = cc
+    by : (c : Option Value) → key_value fields key (changed (λ c. put_at c [] u) i x c) ≡ key_value fields key x
+    by None = refl
+    by (Some c) = key_beside fields id i u e key n x
 
-    by : (ids : List ℕ) → ids ++ xs ≡ ids ++ others → xs ≡ others
-    by [] e = e
-    by (id ∷ ids) e = by ids (rest id (ids ++ xs) (ids ++ others) e)
+abbrev MadeWithout : KeyDecl → List Ilv → Type 0
+MadeWithout key ilvs = AllByRecursion (λ (ilv : Ilv). list_any (λ field. field == ilv.ident) key.fields ≡ false) ilvs
 
-pub unnamed_path : (ids : List ℕ) (ilvs : List Ilv) (s : Step) (path : List Step) (id : ℕ) (others : List ℕ) (ty : Ty) (v w : Value) (y : Ty × Value) → Merges ilvs ids ty v w
-    → place (by_ids ids ++ s ∷ path) ty v ≡ Ok (ids ++ id ∷ others) → walked (by_ids ids ++ s ∷ path) ty v ≡ Ok y → is_named ilvs id ≡ false
-    → (place (by_ids ids ++ s ∷ path) ty w ≡ Ok (ids ++ id ∷ others)) × (walked (by_ids ids ++ s ∷ path) ty w ≡ Ok y)
-unnamed_path ids ilvs s path id others ty v w y u p e n =
-    let d : Down (Merged ilvs) ids ty v w = down (Merged ilvs) ids ty v w u in
-    let b : Beside (is_named ilvs) d.part d.old d.new = merged_beside ilvs d.part d.old d.new d.end in
-    let q : place (s ∷ path) d.part d.old ≡ Ok (id ∷ others) = front_is ids (place (s ∷ path) d.part d.old) (id ∷ others) (sym (d.places_before (s ∷ path)) ∙ p) in
-    let l : Led s path d.part d.old id others y = led s path d.part d.old id others y q (sym (d.before (s ∷ path)) ∙ e) in
-    let there : Went s d.part d.new l.part = went s d.part d.new l.part (b.stay.steps s l.part (ap (is_named ilvs) l.named ∙ n) (reached_by s d.part d.old l.part l.went)) in
-    let r : (place (s ∷ path) d.part d.new ≡ Ok (id ∷ others)) × (walked (s ∷ path) d.part d.new ≡ Ok y) = placed_behind s path d.part d.new l.part id others y there l.named l.place l.walked in
-    (d.places_after (s ∷ path) ∙ ap (ahead ids) r.0, d.after (s ∷ path) ∙ r.1)
+fields_kept : (ty : Ty) (fields : List Field) (key : KeyDecl) (v : Value) (ilvs : List Ilv) (before cs : Entries) → Told ty before ilvs cs → MadeWithout key ilvs
+    → key_value fields key (merged_fields fields cs v) ≡ key_value fields key v
+fields_kept ty fields key v [] before [] t n = refl
+fields_kept ty fields key v [] before (c ∷ cs) t n = absurd t
+fields_kept ty fields key v (ilv ∷ ilvs) before [] t n = absurd t
+fields_kept ty fields key v (ilv ∷ ilvs) before (c ∷ cs) t n =
+    with_kept fields key c.0 c.1 (merged_fields fields cs v) (ap (λ (k : ℕ). list_any (λ field. field == k) key.fields) t.0 ∙ n.0) (position (called c.0) fields) refl
+    ∙ fields_kept ty fields key v ilvs (before ++ c ∷ []) cs t.3 n.1
+
+merged_kept : (ilvs : List Ilv) (ty : Ty) (v w : Value) → Merged ilvs ty v w → (key : KeyDecl) → MadeWithout key ilvs → key_value (fields_of ty) key w ≡ key_value (fields_of ty) key v
+unfolding merged
+merged_kept ilvs ty v w m key n = by (out-Ty ty) refl
+  where
+    none : (l : Ty-F Ty Field) → out-Ty ty ≡ l → fields_layer l ≡ [] → key_value (fields_of ty) key w ≡ key_value (fields_of ty) key v
+    none l q r =
+        let empty : fields_of ty ≡ [] = ap fields_layer q ∙ r in
+        ap (λ (fs : List Field). key_value fs key w) empty ∙ nothing_keyed key w ∙ sym (ap (λ (fs : List Field). key_value fs key v) empty ∙ nothing_keyed key v)
+
+    by : (l : Ty-F Ty Field) → out-Ty ty ≡ l → key_value (fields_of ty) key w ≡ key_value (fields_of ty) key v
+    by Ty-F.Bool q = none Ty-F.Bool q refl
+    by (Ty-F.Number b g min max) q = none (Ty-F.Number b g min max) q refl
+    by (Ty-F.String k) q = none (Ty-F.String k) q refl
+    by (Ty-F.Octets k) q = none (Ty-F.Octets k) q refl
+    by (Ty-F.Bytes k) q = none (Ty-F.Bytes k) q refl
+    by (Ty-F.Struct fields) q =
+        let same : merged_fields fields m.changes v ≡ w = ok_same (merged_fields fields m.changes v) w (sym (ap (merged_layer m.changes v) q) ∙ m.made) in
+        subst (λ (fs : List Field). key_value fs key w ≡ key_value fs key v) (sym (ap fields_layer q))
+        (ap (key_value fields key) (sym same) ∙ fields_kept ty fields key v ilvs [] m.changes (told ty ilvs m.changes m.read) n)
+    by (Ty-F.Array entry limit keys) q = none (Ty-F.Array entry limit keys) q refl
+
+-- ---- paths to what is not named
+-- a path leaves each place that is named
+abbrev pub LeavesAll : List ℕ → List Ilv → List Step → List ℕ → Ty → Type 0
+LeavesAll ids ilvs path others ty = AllByRecursion (λ (ilv : Ilv). leaves (ids ++ ilv.ident ∷ []) path others ty ≡ true) ilvs
+
+-- at the place itself
+none_left : {X : Type 0} (path : List Step) (others : List ℕ) (o : Option Ty) (b : Bool) → (b && some_part (leaves [] path others) o) ≡ true → X
+none_left path others None true e = absurd (cc)
+none_left path others None false e = absurd (cc)
+none_left path others (Some part) true e = absurd (cc)
+none_left path others (Some part) false e = absurd (cc)
+
+others_unnamed : (s : Step) (path : List Step) (j : ℕ) (others : List ℕ) (ty : Ty) (ilvs : List Ilv) → LeavesAll [] ilvs (s ∷ path) (j ∷ others) ty → is_named ilvs j ≡ false
+others_unnamed s path j others ty [] a = refl
+others_unnamed s path j others ty (ilv ∷ ilvs) a = by (others_unnamed s path j others ty ilvs a.1) (ilv.ident == j) a.0
+  where
+    by : is_named ilvs j ≡ false → (b : Bool) → (if b then spares ty s [] && some_part (leaves [] path others) (part_of ty ilv.ident) else true) ≡ true → (if b then true else is_named ilvs j) ≡ false
+    by more true e = none_left path others (part_of ty ilv.ident) (spares ty s []) e
+    by more false e = more
+
+-- further on the way
+parted : (id j : ℕ) (ids : List ℕ) (s : Step) (path : List Step) (others : List ℕ) (ty : Ty) (ilvs : List Ilv) → (id == j) ≡ true → LeavesAll (id ∷ ids) ilvs (s ∷ path) (j ∷ others) ty
+    → AllByRecursion (λ (ilv : Ilv). (spares ty s (ids ++ ilv.ident ∷ []) && some_part (leaves (ids ++ ilv.ident ∷ []) path others) (part_of ty id)) ≡ true) ilvs
+parted id j ids s path others ty [] t a = tt
+parted id j ids s path others ty (ilv ∷ ilvs) t a =
+    (sym (ap (λ (b : Bool). if b then spares ty s (ids ++ ilv.ident ∷ []) && some_part (leaves (ids ++ ilv.ident ∷ []) path others) (part_of ty id) else true) t) ∙ a.0, parted id j ids s path others ty ilvs t a.1)
+
+leaves_later : (ids : List ℕ) (s : Step) (path : List Step) (others : List ℕ) (ty t : Ty) (o : Option Ty) → o ≡ Some t → (ilvs : List Ilv)
+    → AllByRecursion (λ (ilv : Ilv). (spares ty s (ids ++ ilv.ident ∷ []) && some_part (leaves (ids ++ ilv.ident ∷ []) path others) o) ≡ true) ilvs → LeavesAll ids ilvs path others t
+leaves_later ids s path others ty t o e [] a = tt
+leaves_later ids s path others ty t o e (ilv ∷ ilvs) a =
+    let parts : (spares ty s (ids ++ ilv.ident ∷ []) ≡ true) × (some_part (leaves (ids ++ ilv.ident ∷ []) path others) o ≡ true) = both _ _ a.0 in
+    (sym (ap (some_part (leaves (ids ++ ilv.ident ∷ []) path others)) e) ∙ parts.1, leaves_later ids s path others ty t o e ilvs a.1)
+
+spared : (m : ℕ) (bytes : List ℕ) (path : List Step) (others : List ℕ) (ty : Ty) (o : Option Ty) (key : KeyDecl) → find (numbered m) (keys_of ty) ≡ Some key → (ilvs : List Ilv)
+    → AllByRecursion (λ (ilv : Ilv). (spares ty (step.Key m bytes) (ilv.ident ∷ []) && some_part (leaves (ilv.ident ∷ []) path others) o) ≡ true) ilvs → MadeWithout key ilvs
+spared m bytes path others ty o key is [] a = tt
+spared m bytes path others ty o key is (ilv ∷ ilvs) a =
+    let parts : (spares ty (step.Key m bytes) (ilv.ident ∷ []) ≡ true) × (some_part (leaves (ilv.ident ∷ []) path others) o ≡ true) = both _ _ a.0 in
+    (was_false _ (sym (ap (λ (k : Option KeyDecl). is_made_without k ilv.ident) is) ∙ parts.0), spared m bytes path others ty o key is ilvs a.1)
+
+merge_keeps : (first : Ilv) (more : List Ilv) (ids : List ℕ) (s : Step) (path : List Step) (others : List ℕ) (ty t : Ty) (v w c d : Value) (o : Option Ty) → Merges (first ∷ more) ids t c d
+    → AllByRecursion (λ (ilv : Ilv). (spares ty s (ids ++ ilv.ident ∷ []) && some_part (leaves (ids ++ ilv.ident ∷ []) path others) o) ≡ true) (first ∷ more) → Keeps ty s t c d
+merge_keeps first more ids (step.Id m) path others ty t v w c d o u a = tt
+merge_keeps first more [] (step.Key m bytes) path others ty t v w c d o u a = λ key is. merged_kept (first ∷ more) t c d u key (spared m bytes path others ty o key is (first ∷ more) a)
+merge_keeps first more (f ∷ ids) (step.Key m bytes) path others ty t v w c d o u a =
+    let parts : (spares ty (step.Key m bytes) (f ∷ ids ++ first.ident ∷ []) ≡ true) × (some_part (leaves (f ∷ ids ++ first.ident ∷ []) path others) o ≡ true) = both _ _ a.0 in
+    λ key is. u.0.kept key (was_false _ (sym (ap (λ (k : Option KeyDecl). is_made_without k f) is) ∙ parts.0))
+
+abbrev Unmoved : List ℕ → List Step → Type 0
+Unmoved ids path = (n : ℕ) (first : Ilv) (more : List Ilv) (others : List ℕ) (ty : Ty) (v w : Value) (y : Ty × Value) → FitsIn n ty v → Merges (first ∷ more) ids ty v w → place path ty v ≡ Ok others → walked path ty v ≡ Ok y
+    → LeavesAll ids (first ∷ more) path others ty → (place path ty w ≡ Ok others) × (walked path ty w ≡ Ok y)
+
+unmoved_here : (ilvs : List Ilv) (s : Step) (path : List Step) (j : ℕ) (others : List ℕ) (ty : Ty) (v w : Value) (y : Ty × Value) → Merged ilvs ty v w → Led s path ty v j others y → is_named ilvs j ≡ false
+    → (place (s ∷ path) ty w ≡ Ok (j ∷ others)) × (walked (s ∷ path) ty w ≡ Ok y)
+unmoved_here ilvs s path j others ty v w y m l n =
+    let b : Beside (is_named ilvs) ty v w = merged_beside ilvs ty v w m in
+    let there : Went s ty w l.part = went s ty w l.part (b.stay.steps s l.part (ap (is_named ilvs) l.named ∙ n) (reached_by s ty v l.part l.went)) in
+    placed_behind s path ty w l.part j others y there l.named l.place l.walked
+
+unmoved_step : (id : ℕ) (ids : List ℕ) (s : Step) (path : List Step) → Unmoved ids path → (n : ℕ) (first : Ilv) (more : List Ilv) (j : ℕ) (others : List ℕ) (ty : Ty) (v w : Value) (y : Ty × Value) → FitsIn (suc n) ty v
+    → Merges (first ∷ more) (id ∷ ids) ty v w → Led s path ty v j others y → LeavesAll (id ∷ ids) (first ∷ more) (s ∷ path) (j ∷ others) ty → (b : Bool) → (id == j) ≡ b
+    → (place (s ∷ path) ty w ≡ Ok (j ∷ others)) × (walked (s ∷ path) ty w ≡ Ok y)
+unmoved_step id ids s path later n first more j others ty v w y h u l a false t = aside id s path j others ty v w y u.0 l t
+unmoved_step id ids s path later n first more j others ty v w y h u l a true t = by u.1
+  where
+    on : AllByRecursion (λ (ilv : Ilv). (spares ty s (ids ++ ilv.ident ∷ []) && some_part (leaves (ids ++ ilv.ident ∷ []) path others) (part_of ty id)) ≡ true) (first ∷ more)
+    on = parted id j ids s path others ty (first ∷ more) t a
+
+    by : ((ids ≡ []) × ⊥) ⊎ Through (Merges (first ∷ more) ids) id ty v w → (place (s ∷ path) ty w ≡ Ok (j ∷ others)) × (walked (s ∷ path) ty w ≡ Ok y)
+    by (inl k) = absurd k.1
+    by (inr m) =
+        along n id s path j others ty v w m.0 m.1 m.2 y h m.3 (eqb-true id j t) (merge_keeps first more ids s path others ty m.0 v w m.1 m.2 (part_of ty id) m.4 on) l
+        (λ f p e. later n first more others m.0 m.1 m.2 y f m.4 p e (leaves_later ids s path others ty m.0 (part_of ty id) m.3.typed (first ∷ more) on))
+
+pub unmoved : (ids : List ℕ) (path : List Step) → Unmoved ids path
+unmoved [] [] n first more others ty v w y h u p e a = absurd (cc)
+unmoved [] (s ∷ path) n first more [] ty v w y h u p e a = absurd (cc)
+unmoved [] (s ∷ path) n first more (j ∷ others) ty v w y h u p e a =
+    unmoved_here (first ∷ more) s path j others ty v w y u (led s path ty v j others y p e) (others_unnamed s path j others ty (first ∷ more) a)
+unmoved (id ∷ ids) [] n first more others ty v w y h u p e a = absurd (cc)
+unmoved (id ∷ ids) (s ∷ path) n first more [] ty v w y h u p e a = absurd (cc)
+unmoved (id ∷ ids) (s ∷ path) zero first more (j ∷ others) ty v w y h u p e a = absurd h
+unmoved (id ∷ ids) (s ∷ path) (suc n) first more (j ∷ others) ty v w y h u p e a =
+    unmoved_step id ids s path (unmoved ids path) n first more j others ty v w y h u (led s path ty v j others y p e) a (id == j) refl
 
 pub merged_above : (front ids : List ℕ) (ilvs : List Ilv) (ty : Ty) (v w : Value) → Merges ilvs (front ++ ids) ty v w → (cell front ty v ≡ Some Node) × (cell front ty w ≡ Some Node)
 merged_above front (id ∷ ids) ilvs ty v w u = above_stays Never (Merged ilvs) front id ids ty v w u

@@ -1,21 +1,21 @@
 -- A path leads where the path of IDs to its place leads.
-use Rattle.std.proofs.Common.{◌≡◌, ℕ, zero, suc, ◌==◌, ◌<◌, ◌^◌, Bool, true, false, List, [], ◌∷◌, ◌++◌, map, position, find, slice_get, refl, sym, ap, subst, ◌∙◌, Option, Some, None, option_map, Result, Ok, Err, eqb-true}
+use Rattle.std.proofs.Common.{◌≡◌, ℕ, zero, suc, ◌==◌, Bool, true, false, List, [], ◌∷◌, position, find, slice_get, refl, sym, ap, subst, ◌∙◌, Option, Some, None, option_map, Result, Ok, Err, eqb-true}
 use Rattle.std.specs.List.{AllByRecursion}
 use Rattle.fc_base.specs.Answers.{◌>>=◌}
 use Rattle.fc_path.specs.declared.oper.Step.{Step}
 use Rattle.fc_path.specs.declared.oper.Step.TheVariants as step
-use Rattle.fc_tree.specs.Finding.{by_key, entries_of, gone_on, invalid_path, key_in, no_component, not_found, or_code, paired, part_at, place_in, place_layer, stepped, walked, with_key}
+use Rattle.fc_tree.specs.Finding.{by_key, entries_of, invalid_path, key_in, no_component, not_found, or_code, paired, part_at, place_in, place_layer, stepped, walked}
 use Rattle.fc_tree.specs.Merging.{merge_at_place, merge_in}
-use Rattle.fc_tree.specs.Putting.{checked, put_at_place, put_in, put_new, put_part}
+use Rattle.fc_tree.specs.Putting.{checked, put_at_place, put_in, put_part}
 use Rattle.fc_tree.specs.Removing.{remove_at, remove_at_place, remove_in, remove_part, taken}
-use Rattle.fc_types.specs.Types.{field_id, field_ty, fields_of}
+use Rattle.fc_types.specs.Types.{field_ty, fields_of}
 use Rattle.fc_types.specs.declared.ty.Field.{Field}
 use Rattle.fc_types.specs.declared.ty.KeyDecl.{KeyDecl}
 use Rattle.fc_types.specs.declared.ty.Ty.{Ty}
 use Rattle.fc_types.specs.declared.ty.Ty.TheOpen.{Ty-F}
 use Rattle.fc_types.specs.declared.ty.Ty.TheViews.{out-Ty}
-use Rattle.fc_value.specs.Fits.{EachFits, EntryFits, FitsIn, FitsLayer, Holding}
-use Rattle.fc_value.specs.FullForm.{AreEntries, AreRising}
+use Rattle.fc_value.specs.Fits.{EachFits, EntryFits, FitsIn, FitsLayer}
+use Rattle.fc_value.specs.FullForm.{AreRising}
 use Rattle.fc_value.specs.Nodes.{child, child_layer, with_child}
 use Rattle.fc_value.specs.declared.value.Value.{Value, out-Value}
 use Rattle.fc_value.specs.declared.value.Value.TheOpen.{Value-F}
@@ -300,3 +300,10 @@ part_fits n s ty v x h w =
     let t : Told (FitsIn n) s w.at ty v = told n ty v h s w.at w.placed in
     let same : (t.part.1, t.part.2) ≡ (x.1, x.2) = some_same (t.part.1, t.part.2) (x.1, x.2) (sym t.here ∙ w.part) in
     subst (λ (z : Ty × Value). FitsIn n z.0 z.1) same t.fits
+
+-- the step by its ID leads there too
+pub went_by_id : (n : ℕ) (s : Step) (ty : Ty) (v : Value) (x : Part) → FitsIn (suc n) ty v → Went s ty v x → Went (step.Id x.0) ty v x
+went_by_id n s ty v x h w =
+    let t : Told (FitsIn n) s w.at ty v = told n ty v h s w.at w.placed in
+    let own : t.part.0 ≡ x.0 = ok_same t.part.0 x.0 (sym t.named ∙ w.named) in
+    record { at = w.at; placed = ap (λ (k : ℕ). place_in ty v (step.Id k)) (sym own) ∙ t.again; named = refl; part = w.part }

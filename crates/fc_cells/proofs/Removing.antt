@@ -1,13 +1,13 @@
 -- What a DEL takes out.
-use Rattle.std.proofs.Common.{◌≡◌, ℕ, zero, suc, ◌==◌, Bool, true, false, List, [], ◌∷◌, ◌++◌, map, position, find, slice_get, slice_set, bytes_eq, refl, sym, ap, subst, ◌∙◌, Option, Some, None, option_map, option_and_then, Result, Ok, Err, ◌⊎◌, inl, inr, eqb-true}
-use Rattle.std.specs.List.{AllByRecursion, list_all, remove}
+use Rattle.std.proofs.Common.{◌≡◌, ℕ, zero, suc, ◌==◌, Bool, true, false, List, [], ◌∷◌, position, find, slice_get, slice_set, refl, sym, ap, subst, ◌∙◌, Option, Some, None, option_map, option_and_then, Result, Ok, Err, if◌then◌else◌, inl, inr, eqb-true}
+use Rattle.std.specs.List.{AllByRecursion, remove}
 use Rattle.fc_base.specs.Answers.{◌>>=◌}
 use Rattle.fc_path.specs.declared.oper.Step.{Step}
 use Rattle.fc_path.specs.declared.oper.Step.TheVariants as step
-use Rattle.fc_tree.specs.Finding.{by_key, entries_of, invalid_path, key_in, no_component, not_found, or_code, paired, part_at, place_in, place_layer, stepped, walked}
-use Rattle.fc_tree.specs.Removing.{remove_at, remove_at_place, remove_in, remove_part, taken, taken_layer}
+use Rattle.fc_tree.specs.Finding.{by_key, entries_of, invalid_path, key_in, no_component, not_found, or_code, paired, part_at, part_layer, place_in, place_layer, stepped, walked}
+use Rattle.fc_tree.specs.Removing.{remove_at_place, remove_in, remove_part, taken, taken_layer}
 use Rattle.fc_types.specs.Sound.{IsSound, IsSoundInside, SoundLayer}
-use Rattle.fc_types.specs.Types.{field_id, field_ty, fields_layer, fields_of, is_atom, is_atom_layer, is_key}
+use Rattle.fc_types.specs.Types.{field_ty, fields_layer, fields_of, is_atom, is_atom_layer, is_key}
 use Rattle.fc_types.specs.declared.ty.Field.{Field}
 use Rattle.fc_types.specs.declared.ty.KeyDecl.{KeyDecl}
 use Rattle.fc_types.specs.declared.ty.Ty.{Ty}
@@ -15,20 +15,20 @@ use Rattle.fc_types.specs.declared.ty.Ty.TheOpen.{Ty-F}
 use Rattle.fc_types.specs.declared.ty.Ty.TheViews.{out-Ty}
 use Rattle.fc_types.proofs.Sounds.{level_is_sound}
 use Rattle.fc_value.specs.Fits.{FitsIn, FitsLayer}
-use Rattle.fc_value.specs.FullForm.{AreEntries, AreRising}
+use Rattle.fc_value.specs.FullForm.{AreRising}
 use Rattle.fc_value.specs.Keys.{differ_in, key_value, keys_differ}
-use Rattle.fc_value.specs.Nodes.{child, with_child}
+use Rattle.fc_value.specs.Nodes.{are_apart, child, with_child}
 use Rattle.fc_value.specs.Outcomes.{invalid_parameters}
 use Rattle.fc_value.specs.declared.value.Value.{Value}
 use Rattle.fc_value.specs.declared.value.Value.TheVariants as value
 use Rattle.fc_cells.specs.Cells.{by_ids}
-use Rattle.fc_cells.specs.Places.{id_of, new_place, place, place_behind, place_from}
-use Rattle.fc_cells.proofs.Finds.{Entries, Entry, Found, In, all_in, find_remains, find_rising, find_without, found, found_at, has, in_found, key_free, no_some, none_left, other_test, same_test, some_same}
-use Rattle.fc_cells.proofs.Steps.{Part, Went, array_key, array_part, array_place, behind, behind_is, by_its_key, by_key_bytes, by_some_key, by_subscript, called, key_entry, key_of, no_ok, numbered, ok_same, one_entry, place_by, reached, reached_by, reached_from, struct_part, struct_place, walked_by, walked_id, went, went_on}
-use Rattle.fc_cells.proofs.Beside.{Beside, Level, array_beside, array_level, entries_again, entries_set, paired_is, struct_level}
+use Rattle.fc_cells.specs.Places.{id_of, keys_layer, new_place, place, place_behind, place_from}
+use Rattle.fc_cells.proofs.Finds.{Entries, Entry, Found, In, all_in, find_remains, find_rising, find_without, found, found_at, has, in_found, key_free, no_some, none_left, other_test, some_same}
+use Rattle.fc_cells.proofs.Steps.{Led, Part, Went, array_key, array_part, array_place, behind_is, by_its_key, by_key_bytes, by_some_key, by_subscript, called, key_entry, key_of, led, no_ok, numbered, ok_same, one_entry, reached, reached_by, struct_part, struct_place, walked_by, walked_id, went, went_on}
+use Rattle.fc_cells.proofs.Beside.{Changed, KeepsKey, Level, array_beside, array_kept, array_level, entries_again, entries_set, paired_is, struct_level}
 use Rattle.fc_cells.proofs.Keeping.{differ_kept, key_kept, keyless}
 use Rattle.fc_cells.proofs.Placing.{part_fits, own_entries, rises}
-use Rattle.fc_cells.proofs.Under.{Through, Under}
+use Rattle.fc_cells.proofs.Under.{Keeps, Under, along, aside, moved, same_part}
 
 -- the entry with a subscript is taken out of an array
 pub record Taken (id : ℕ) (ty : Ty) (v w : Value) : Type 0 where
@@ -72,13 +72,16 @@ taken_entry id i ty v w p e = by (out-Ty ty) refl
           ∙ entries_again (remove (entries_of v) i);
     }
 
-taken_beside : (id : ℕ) (ty : Ty) (v w : Value) → Taken id ty v w → Beside (λ j. id == j) ty v w
-taken_beside id ty v w t =
+taken_changed : (id : ℕ) (ty : Ty) (v w : Value) → Taken id ty v w → Changed id ty v w
+taken_changed id ty v w t =
     let f : Found (has id) (entries_of v) t.at = found (has id) (entries_of v) t.at t.placed in
-    array_beside ty t.entry t.limit t.keys t.array (λ j. id == j) v w
-    (λ j n. ap (find (has j)) t.left ∙ find_without (has j) (entries_of v) t.at f.item f.got (other_test f.item.0 id j (eqb-true f.item.0 id f.passes) n))
-    (λ n key is k e m q. ap (find (key_of (fields_of t.entry) key k)) t.left
-    ∙ find_remains (key_of (fields_of t.entry) key k) (entries_of v) t.at f.item e f.got (other_test f.item.0 id e.0 (eqb-true f.item.0 id f.passes) m) q)
+    record {
+      beside = array_beside ty t.entry t.limit t.keys t.array (λ j. id == j) v w
+          (λ j n. ap (find (has j)) t.left ∙ find_without (has j) (entries_of v) t.at f.item f.got (other_test f.item.0 id j (eqb-true f.item.0 id f.passes) n))
+          (λ n key is k e m q. ap (find (key_of (fields_of t.entry) key k)) t.left
+          ∙ find_remains (key_of (fields_of t.entry) key k) (entries_of v) t.at f.item e f.got (other_test f.item.0 id e.0 (eqb-true f.item.0 id f.passes) m) q);
+      kept = array_kept ty t.entry t.limit t.keys t.array id v w;
+    }
 
 -- ---- what is sound of a part
 some_sound : (fields : List Field) (i : ℕ) (t : Ty) → AllByRecursion (λ f. IsSoundInside (field_ty f)) fields → option_map field_ty (slice_get fields i) ≡ Some t → IsSound t
@@ -212,6 +215,32 @@ level_below n id j ids ty v w s h b = by (out-Ty ty) refl (level_is_sound ty s) 
         ∙ differ_kept (fields_of entry) keys (entries_of v) b.at f.item b.new f.got s.made (λ key k. entry_keys j ids entry f.item.1 b.new made key k) old in
         (subst (λ (z : Ty × Value). Level id ty v w z.0 z.1 b.new) same (array_level ty entry limit keys q id b.at v w f.item b.new at f.got f.passes set new), subst IsSound (ap (λ (z : Ty × Value). z.0) same) s.inner.sound)
 
+-- a part from whose inside something is taken keeps each key
+keeps_below : (id j : ℕ) (ids : List ℕ) (ty : Ty) (v w : Value) → IsSound ty → (b : Below (j ∷ ids) id ty v w) → (m : ℕ) → KeepsKey ty m b.part b.old b.new
+keeps_below id j ids ty v w s b m key is = by (out-Ty ty) refl (level_is_sound ty s)
+  where
+    none : (l : Ty-F Ty Field) → out-Ty ty ≡ l → keys_layer l ≡ [] → key_value (fields_of b.part) key b.new ≡ key_value (fields_of b.part) key b.old
+    none l q r = no_some key (sym (ap (find (numbered m)) (ap keys_layer q ∙ r)) ∙ is)
+
+    by : (l : Ty-F Ty Field) → out-Ty ty ≡ l → SoundLayer l → key_value (fields_of b.part) key b.new ≡ key_value (fields_of b.part) key b.old
+    by Ty-F.Bool q s = none Ty-F.Bool q refl
+    by (Ty-F.Number c g min max) q s = none (Ty-F.Number c g min max) q refl
+    by (Ty-F.String k) q s = none (Ty-F.String k) q refl
+    by (Ty-F.Octets k) q s = none (Ty-F.Octets k) q refl
+    by (Ty-F.Bytes k) q s = none (Ty-F.Bytes k) q refl
+    by (Ty-F.Struct fields) q s = none (Ty-F.Struct fields) q refl
+    by (Ty-F.Array entry limit keys) q s =
+        let p : paired (Some entry) (child b.at v) ≡ Some (b.part, b.old) = sym (ap (λ l. paired (part_layer b.at l) (child b.at v)) q) ∙ b.here in
+        let parts : (◌≡◌ {A = Option Ty} (Some entry) (Some b.part)) × (child b.at v ≡ Some b.old) = paired_is (Some entry) (child b.at v) b.part b.old p in
+        let own : In key keys × (numbered m key ≡ true) = in_found (numbered m) keys key (sym (ap (find (numbered m)) (ap keys_layer q)) ∙ is) in
+        let made : is_key (fields_of b.part) key ≡ true =
+        subst (λ (t : Ty). is_key (fields_of t) key ≡ true) (some_same entry b.part parts.0) (all_in (is_key (fields_of entry)) keys key s.made own.0) in
+        entry_keys j ids b.part b.old b.new b.made key made
+
+step_kept : (id j : ℕ) (ids : List ℕ) (ty : Ty) (v w : Value) → IsSound ty → (b : Below (j ∷ ids) id ty v w) → (s : Step) → Keeps ty s b.part b.old b.new
+step_kept id j ids ty v w sound b (step.Id m) = tt
+step_kept id j ids ty v w sound b (step.Key m bytes) = keeps_below id j ids ty v w sound b m
+
 -- ---- a DEL
 abbrev Removes : List ℕ → Type 0
 Removes ids = (n : ℕ) (ty : Ty) (v w : Value) → IsSound ty → FitsIn n ty v → remove_in (by_ids ids) ty v ≡ Ok w → Removed ids ty v w
@@ -219,7 +248,7 @@ Removes ids = (n : ℕ) (ty : Ty) (v w : Value) → IsSound ty → FitsIn n ty v
 last_removed : (id : ℕ) (ty : Ty) (v w : Value) (r : Result (Option ℕ) ℕ) → place_in ty v (step.Id id) ≡ r → r >>= remove_at_place (remove_in []) [] ty v ≡ Ok w → Removed (id ∷ []) ty v w
 last_removed id ty v w (Err c) p e = no_ok c w e
 last_removed id ty v w (Ok None) p e = no_ok not_found w e
-last_removed id ty v w (Ok (Some i)) p e = let t : Taken id ty v w = taken_entry id i ty v w p e in (taken_beside id ty v w t, inl (refl, t))
+last_removed id ty v w (Ok (Some i)) p e = let t : Taken id ty v w = taken_entry id i ty v w p e in (taken_changed id ty v w t, inl (refl, t))
 
 removed_below : (id j : ℕ) (ids : List ℕ) → Removes (j ∷ ids) → Removes (id ∷ j ∷ ids)
 removed_below id j ids more zero ty v w s h e = absurd h
@@ -227,7 +256,7 @@ removed_below id j ids more (suc n) ty v w s h e =
     let b : Below (j ∷ ids) id ty v w = below id j ids ty v w e in
     let l : Level id ty v w b.part b.old b.new × IsSound b.part = level_below n id j ids ty v w s h b in
     let fits : FitsIn n b.part b.old = part_fits n (step.Id id) ty v (id, b.part, b.old) h (went (step.Id id) ty v (id, b.part, b.old) l.0.before) in
-    (l.0.beside, inr (b.part, b.old, b.new, l.0.before, l.0.after, more n b.part b.old b.new l.1 fits b.made))
+    (l.0.changed, inr (b.part, b.old, b.new, l.0, more n b.part b.old b.new l.1 fits b.made))
 
 pub removed_under : (ids : List ℕ) → Removes ids
 removed_under [] n ty v w s h e = no_ok invalid_parameters w e
@@ -349,31 +378,131 @@ module _ (n : ℕ) (id : ℕ) (ty : Ty) (v w : Value) (h : FitsIn (suc n) ty v) 
       let l : (x : Part) × (reached (step.Key m bytes) ty v ≡ Ok x) × (x.0 ≡ id) = key_led m bytes e in
       ap (λ (r : Result (Option ℕ) ℕ). r >>= stepped (walked []) ty w) (by_key_gone m bytes l.0 l.1 l.2)
 
-abbrev Gone : List ℕ → Type 0
-Gone front = (n : ℕ) (id : ℕ) (s : Step) (ty : Ty) (v w : Value) → FitsIn n ty v → Removed (front ++ id ∷ []) ty v w → place (by_ids front ++ s ∷ []) ty v ≡ Ok (front ++ id ∷ []) → walked (by_ids front ++ s ∷ []) ty w ≡ Err not_found
-
-gone_below : (f : ℕ) (front : List ℕ) → Gone front → Gone (f ∷ front)
-gone_below f front more zero id s ty v w h u e = absurd h
-gone_below f front more (suc n) id s ty v w h u e = by u.1
+taken_last : (id : ℕ) (ty : Ty) (v w : Value) → remove_in (by_ids (id ∷ [])) ty v ≡ Ok w → Taken id ty v w
+taken_last id ty v w e = by (place_in ty v (step.Id id)) refl e
   where
-    some_left : {X : Type 0} (xs : List ℕ) → (xs ++ id ∷ []) ≡ [] → X
-    some_left [] e = absurd (cc)
-    some_left (x ∷ xs) e = absurd (cc)
+    by : (r : Result (Option ℕ) ℕ) → place_in ty v (step.Id id) ≡ r → r >>= remove_at_place (remove_in []) [] ty v ≡ Ok w → Taken id ty v w
+    by (Err c) p e = no_ok c w e
+    by (Ok None) p e = no_ok not_found w e
+    by (Ok (Some i)) p e = taken_entry id i ty v w p e
 
-    by : (((front ++ id ∷ []) ≡ []) × Taken f ty v w) ⊎ Through (Removed (front ++ id ∷ [])) f ty v w → walked (by_ids (f ∷ front) ++ s ∷ []) ty w ≡ Err not_found
-    by (inl l) = some_left front l.0
-    by (inr m) =
-        let q : Went (step.Id f) ty v (f, m.0, m.1) = went (step.Id f) ty v (f, m.0, m.1) m.3 in
-        let p : (f ≡ f) × (place (by_ids front ++ s ∷ []) m.0 m.1 ≡ Ok (front ++ id ∷ [])) =
-        behind_is f f (place (by_ids front ++ s ∷ []) m.0 m.1) (front ++ id ∷ []) (sym (place_by (step.Id f) (by_ids front ++ s ∷ []) ty v (f, m.0, m.1) q) ∙ e) in
-        walked_id f (by_ids front ++ s ∷ []) ty w ∙ ap (λ (r : Result Part ℕ). r >>= went_on (by_ids front ++ s ∷ [])) m.4
-        ∙ more n id s m.0 m.1 m.2 (part_fits n (step.Id f) ty v (f, m.0, m.1) h q) m.5 p.1
-
-pub gone : (front : List ℕ) → Gone front
-gone [] zero id s ty v w h u e = absurd h
-gone [] (suc n) id s ty v w h u e = by u.1
+-- the place of a path has as many parts as the path has steps
+none_long : {X : Type 0} (t : Step) (path : List Step) (ty : Ty) (v : Value) → place (t ∷ path) ty v ≡ Ok [] → X
+none_long t path ty v e = by (place_in ty v t) e
   where
-    by : ((◌≡◌ {A = List ℕ} [] []) × Taken id ty v w) ⊎ Through (Removed []) id ty v w → walked (s ∷ []) ty w ≡ Err not_found
-    by (inl l) = step_gone n id ty v w h l.1 s e
-    by (inr m) = absurd m.5
-gone (f ∷ front) n id s ty v w h u e = gone_below f front (gone front) n id s ty v w h u e
+    new : {X : Type 0} (path : List Step) (t : Step) → new_place path t ≡ Ok [] → X
+    new [] (step.Id m) e = absurd (cc)
+    new [] (step.Key m bytes) e = no_ok not_found [] e
+    new (s ∷ path) t e = no_ok not_found [] e
+
+    last : {X : Type 0} (m : ℕ) (r : Result (List ℕ) ℕ) → (r >>= λ js. Ok (m ∷ js)) ≡ Ok [] → X
+    last m (Err c) e = no_ok c [] e
+    last m (Ok js) e = absurd (cc)
+
+    part : {X : Type 0} (m : ℕ) (o : Option (Ty × Value)) → place_behind (place path) m o ≡ Ok [] → X
+    part m None e = no_ok invalid_path [] e
+    part m (Some x) e = last m (place path x.0 x.1) e
+
+    named : {X : Type 0} (i : ℕ) (r : Result ℕ ℕ) → (r >>= λ m. place_behind (place path) m (part_at i ty v)) ≡ Ok [] → X
+    named i (Err c) e = no_ok c [] e
+    named i (Ok m) e = part m (part_at i ty v) e
+
+    by : {X : Type 0} (r : Result (Option ℕ) ℕ) → r >>= place_from (place path) path t ty v ≡ Ok [] → X
+    by (Err c) e = no_ok c [] e
+    by (Ok None) e = new path t e
+    by (Ok (Some i)) e = named i (id_of t i v) e
+
+-- the first step of a path to a place below a part, where the path may be one to a part that is not there yet
+record Headed (s : Step) (path : List Step) (ty : Ty) (v : Value) (id : ℕ) (ids : List ℕ) : Type 0 where
+  part : Part
+  went : Went s ty v part
+  named : part.0 ≡ id
+  place : place path part.1 part.2 ≡ Ok ids
+
+headed : (s : Step) (path : List Step) (ty : Ty) (v : Value) (id : ℕ) (ids : List ℕ) → (new_place path s ≡ Ok (id ∷ ids) → ⊥) → place (s ∷ path) ty v ≡ Ok (id ∷ ids) → Headed s path ty v id ids
+headed s path ty v id ids new e = by (place_in ty v s) refl e
+  where
+    last : (i : ℕ) → place_in ty v s ≡ Ok (Some i) → (n : ℕ) → id_of s i v ≡ Ok n → (o : Option (Ty × Value)) → part_at i ty v ≡ o → place_behind (place path) n o ≡ Ok (id ∷ ids) → Headed s path ty v id ids
+    last i p n q None t e = no_ok invalid_path (id ∷ ids) e
+    last i p n q (Some x) t e =
+        let k : (n ≡ id) × (place path x.0 x.1 ≡ Ok ids) = behind_is n id (place path x.0 x.1) ids e in
+        record { part = (n, x.0, x.1); went = record { at = i; placed = p; named = q; part = t }; named = k.0; place = k.1 }
+
+    next : (i : ℕ) → place_in ty v s ≡ Ok (Some i) → (q : Result ℕ ℕ) → id_of s i v ≡ q → (q >>= λ n. place_behind (place path) n (part_at i ty v)) ≡ Ok (id ∷ ids) → Headed s path ty v id ids
+    next i p (Err c) q e = no_ok c (id ∷ ids) e
+    next i p (Ok n) q e = last i p n q (part_at i ty v) refl e
+
+    by : (r : Result (Option ℕ) ℕ) → place_in ty v s ≡ r → r >>= place_from (place path) path s ty v ≡ Ok (id ∷ ids) → Headed s path ty v id ids
+    by (Err c) p e = no_ok c (id ∷ ids) e
+    by (Ok None) p e = absurd (new e)
+    by (Ok (Some i)) p e = next i p (id_of s i v) refl e
+
+no_new_long : (s : Step) (path : List Step) (id k : ℕ) (ids : List ℕ) → new_place path s ≡ Ok (id ∷ k ∷ ids) → ⊥
+no_new_long (step.Id m) [] id k ids e = let l : ◌≡◌ {A = List ℕ} (m ∷ []) (id ∷ k ∷ ids) = ok_same (m ∷ []) (id ∷ k ∷ ids) e in absurd (cc)
+no_new_long (step.Key m bytes) [] id k ids e = no_ok not_found (id ∷ k ∷ ids) e
+no_new_long s (t ∷ path) id k ids e = no_ok not_found (id ∷ k ∷ ids) e
+
+abbrev Gone : List ℕ → List Step → Type 0
+Gone ids path = (n : ℕ) (ty : Ty) (v w : Value) → IsSound ty → FitsIn n ty v → remove_in (by_ids ids) ty v ≡ Ok w → place path ty v ≡ Ok ids → walked path ty w ≡ Err not_found
+
+gone_last : (id : ℕ) (path : List Step) → Gone (id ∷ []) path
+gone_last id path zero ty v w sound h r e = absurd h
+gone_last id [] (suc n) ty v w sound h r e = absurd (cc)
+gone_last id (s ∷ []) (suc n) ty v w sound h r e = step_gone n id ty v w h (taken_last id ty v w r) s e
+gone_last id (s ∷ t ∷ path) (suc n) ty v w sound h r e =
+    let l : Headed s (t ∷ path) ty v id [] = headed s (t ∷ path) ty v id [] (λ q. no_ok not_found (id ∷ []) q) e in none_long t path l.part.1 l.part.2 l.place
+
+gone_below : (id j : ℕ) (ids : List ℕ) (s : Step) (path : List Step) → Gone (j ∷ ids) path → Gone (id ∷ j ∷ ids) (s ∷ path)
+gone_below id j ids s path more zero ty v w sound h r e = absurd h
+gone_below id j ids s path more (suc n) ty v w sound h r e =
+    let b : Below (j ∷ ids) id ty v w = below id j ids ty v w r in
+    let l : Level id ty v w b.part b.old b.new × IsSound b.part = level_below n id j ids ty v w sound h b in
+    let g : Headed s path ty v id (j ∷ ids) = headed s path ty v id (j ∷ ids) (λ q. no_new_long s path id j ids q) e in
+    let same : g.part ≡ (id, b.part, b.old) = same_part n id s ty b.part v b.old g.part h l.0.before g.went g.named in
+    let p : place path b.part b.old ≡ Ok (j ∷ ids) = subst (λ (x : Part). place path x.1 x.2 ≡ Ok (j ∷ ids)) same g.place in
+    let f : FitsIn n b.part b.old = part_fits n (step.Id id) ty v (id, b.part, b.old) h (went (step.Id id) ty v (id, b.part, b.old) l.0.before) in
+    walked_by s path ty w (id, b.part, b.new) (moved n id s ty b.part v w b.old b.new g.part h l.0 (step_kept id j ids ty v w sound b s) g.went g.named)
+    ∙ more n b.part b.old b.new l.1 f b.made p
+
+pub gone : (ids : List ℕ) (path : List Step) → Gone ids path
+gone [] path n ty v w sound h r e = no_ok invalid_parameters w r
+gone (id ∷ []) path n ty v w sound h r e = gone_last id path n ty v w sound h r e
+gone (id ∷ j ∷ ids) [] n ty v w sound h r e = absurd (cc)
+gone (id ∷ j ∷ ids) (s ∷ path) n ty v w sound h r e = gone_below id j ids s path (gone (j ∷ ids) path) n ty v w sound h r e
+
+-- ---- what is not taken out
+abbrev Remains : List ℕ → List Step → Type 0
+Remains ids path = (n : ℕ) (others : List ℕ) (ty : Ty) (v w : Value) (y : Ty × Value) → IsSound ty → FitsIn n ty v → remove_in (by_ids ids) ty v ≡ Ok w → are_apart ids others ≡ true
+    → place path ty v ≡ Ok others → walked path ty v ≡ Ok y → (place path ty w ≡ Ok others) × (walked path ty w ≡ Ok y)
+
+remains_last : (id : ℕ) (s : Step) (path : List Step) (j : ℕ) (others : List ℕ) (ty : Ty) (v w : Value) (y : Ty × Value) → Taken id ty v w → Led s path ty v j others y → (b : Bool) → (id == j) ≡ b
+    → (if b then are_apart [] others else true) ≡ true → (place (s ∷ path) ty w ≡ Ok (j ∷ others)) × (walked (s ∷ path) ty w ≡ Ok y)
+remains_last id s path j others ty v w y t l true q a = absurd (cc)
+remains_last id s path j others ty v w y t l false q a = aside id s path j others ty v w y (taken_changed id ty v w t) l q
+
+remains_below : (id k : ℕ) (ids : List ℕ) (s : Step) (path : List Step) → Remains (k ∷ ids) path → (n j : ℕ) (others : List ℕ) (ty : Ty) (v w : Value) (y : Ty × Value) → IsSound ty → FitsIn (suc n) ty v
+    → remove_in (by_ids (id ∷ k ∷ ids)) ty v ≡ Ok w → Led s path ty v j others y → (b : Bool) → (id == j) ≡ b → (if b then are_apart (k ∷ ids) others else true) ≡ true
+    → (place (s ∷ path) ty w ≡ Ok (j ∷ others)) × (walked (s ∷ path) ty w ≡ Ok y)
+remains_below id k ids s path more n j others ty v w y sound h r l t q a = by t q a
+  where
+    b : Below (k ∷ ids) id ty v w
+    b = below id k ids ty v w r
+
+    lev : Level id ty v w b.part b.old b.new × IsSound b.part
+    lev = level_below n id k ids ty v w sound h b
+
+    by : (t : Bool) → (id == j) ≡ t → (if t then are_apart (k ∷ ids) others else true) ≡ true → (place (s ∷ path) ty w ≡ Ok (j ∷ others)) × (walked (s ∷ path) ty w ≡ Ok y)
+    by false q a = aside id s path j others ty v w y lev.0.changed l q
+    by true q a =
+        along n id s path j others ty v w b.part b.old b.new y h lev.0 (eqb-true id j q) (step_kept id k ids ty v w sound b s) l
+        (λ f p e. more n others b.part b.old b.new y lev.1 f b.made a p e)
+
+pub remains : (ids : List ℕ) (path : List Step) → Remains ids path
+remains [] path n others ty v w y sound h r a p e = no_ok invalid_parameters w r
+remains (id ∷ ids) path n [] ty v w y sound h r a p e = absurd (cc)
+remains (id ∷ ids) [] n (j ∷ others) ty v w y sound h r a p e = absurd (cc)
+remains (id ∷ []) (s ∷ path) n (j ∷ others) ty v w y sound h r a p e =
+    remains_last id s path j others ty v w y (taken_last id ty v w r) (led s path ty v j others y p e) (id == j) refl a
+remains (id ∷ k ∷ ids) (s ∷ path) zero (j ∷ others) ty v w y sound h r a p e = absurd h
+remains (id ∷ k ∷ ids) (s ∷ path) (suc n) (j ∷ others) ty v w y sound h r a p e =
+    remains_below id k ids s path (remains (k ∷ ids) path) n j others ty v w y sound h r (led s path ty v j others y p e) (id == j) refl a

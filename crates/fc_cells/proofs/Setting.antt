@@ -1,17 +1,16 @@
 -- What a SET of FULLDATA changes.
-use Rattle.std.proofs.Common.{◌≡◌, ℕ, ◌==◌, List, [], ◌∷◌, ◌++◌, map, refl, sym, ap, subst, ◌∙◌, Option, Some, None, Result, Ok, Err, ◌⊎◌, inl, inr}
+use Rattle.std.proofs.Common.{◌≡◌, ℕ, List, [], ◌∷◌, refl, ap, ◌∙◌, Option, Some, None, Result, Ok, Err, ◌⊎◌, inl, inr}
 use Rattle.fc_base.specs.Answers.{◌>>=◌}
-use Rattle.fc_path.specs.declared.oper.Step.{Step}
 use Rattle.fc_path.specs.declared.oper.Step.TheVariants as step
 use Rattle.fc_tree.specs.Finding.{invalid_path, not_found, part_at, place_in, walked}
-use Rattle.fc_tree.specs.Putting.{checked, created, put_at_place, put_in, put_new, put_part}
+use Rattle.fc_tree.specs.Putting.{checked, put_at_place, put_in, put_part}
 use Rattle.fc_types.specs.declared.ty.Ty.{Ty}
 use Rattle.fc_value.specs.Nodes.{with_child}
 use Rattle.fc_value.specs.Reading.{full_in}
 use Rattle.fc_value.specs.declared.value.Value.{Value}
 use Rattle.fc_cells.specs.Cells.{by_ids}
-use Rattle.fc_cells.proofs.Steps.{Part, no_ok, ok_same, reached, walked_id, went_on}
-use Rattle.fc_cells.proofs.Beside.{Beside, Entered, Level, entered_beside, through}
+use Rattle.fc_cells.proofs.Steps.{Part, no_ok, reached, walked_id, went_on}
+use Rattle.fc_cells.proofs.Beside.{Entered, Level, entered_beside, through}
 use Rattle.fc_cells.proofs.Under.{Through, Under}
 
 -- what is read stands at the place
@@ -45,11 +44,11 @@ set_step : (id : ℕ) (ids : List ℕ) → Sets ids → (bytes : List ℕ) (ty :
     → r >>= put_at_place (put_in (by_ids ids) bytes) (by_ids ids) (step.Id id) bytes ty v ≡ Ok w → Set bytes (id ∷ ids) ty v w
 set_step id ids more bytes ty v w (Err c) p e = no_ok c w e
 set_step id [] more bytes ty v w (Ok None) p e =
-    let n : Entered id bytes ty v w = entered_beside id bytes ty v w e in (n.beside, inl (refl, (n.part, n.new, n.after, n.read)))
+    let n : Entered id bytes ty v w = entered_beside id bytes ty v w e in (n.changed, inl (refl, (n.part, n.new, n.after, n.read)))
 set_step id (i ∷ ids) more bytes ty v w (Ok None) p e = no_ok not_found w e
 set_step id ids more bytes ty v w (Ok (Some i)) p e =
     let m : (t : Ty) × (c : Value) × (d : Value) × Level id ty v w t c d × (put_in (by_ids ids) bytes t c ≡ Ok d) = in_part (put_in (by_ids ids) bytes) id i ty v w p e in
-    (m.3.beside, inr (m.0, m.1, m.2, m.3.before, m.3.after, more bytes m.0 m.1 m.2 m.4))
+    (m.3.changed, inr (m.0, m.1, m.2, m.3, more bytes m.0 m.1 m.2 m.4))
 
 pub set_under : (ids : List ℕ) → Sets ids
 set_under [] bytes ty v w e = e
@@ -69,5 +68,5 @@ put_is_found (id ∷ ids) bytes ty v w u = by (put_is_found ids bytes) u.1
       l.1.3,
     )
     by more (inr m) =
-        let f : (part : Ty) × (node : Value) × (walked (by_ids ids) m.0 m.2 ≡ Ok (part, node)) × (full_in part bytes ≡ Ok node) = more m.0 m.1 m.2 m.5 in
-        (f.0, f.1, walked_id id (by_ids ids) ty w ∙ ap (λ (r : Result Part ℕ). r >>= went_on (by_ids ids)) m.4 ∙ f.2, f.3)
+        let f : (part : Ty) × (node : Value) × (walked (by_ids ids) m.0 m.2 ≡ Ok (part, node)) × (full_in part bytes ≡ Ok node) = more m.0 m.1 m.2 m.4 in
+        (f.0, f.1, walked_id id (by_ids ids) ty w ∙ ap (λ (r : Result Part ℕ). r >>= went_on (by_ids ids)) m.3.after ∙ f.2, f.3)

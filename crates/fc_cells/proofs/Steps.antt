@@ -1,9 +1,9 @@
 -- Where one step leads, with the ID that it stands for.
-use Rattle.std.proofs.Common.{◌≡◌, ℕ, zero, suc, ◌==◌, Bool, true, false, List, [], ◌∷◌, ◌++◌, map, position, find, slice_get, slice_set, bytes_eq, refl, sym, ap, subst, ◌∙◌, Option, Some, None, option_map, option_and_then, Result, Ok, Err}
+use Rattle.std.proofs.Common.{◌≡◌, ℕ, ◌==◌, Bool, List, ◌∷◌, position, find, slice_get, bytes_eq, refl, sym, ap, ◌∙◌, Option, Some, None, option_map, option_and_then, Result, Ok, Err}
 use Rattle.fc_base.specs.Answers.{◌>>=◌}
 use Rattle.fc_path.specs.declared.oper.Step.{Step}
 use Rattle.fc_path.specs.declared.oper.Step.TheVariants as step
-use Rattle.fc_tree.specs.Finding.{by_key, entries_layer, entries_of, from_array, from_struct, gone_on, invalid_path, key_in, no_component, not_found, or_code, paired, part_at, part_layer, part_type, place_in, place_layer, stepped, walked, with_key}
+use Rattle.fc_tree.specs.Finding.{by_key, entries_layer, entries_of, gone_on, invalid_path, key_in, no_component, not_found, or_code, paired, part_at, part_layer, place_in, place_layer, stepped, walked}
 use Rattle.fc_types.specs.Types.{field_id, field_ty, fields_of}
 use Rattle.fc_types.specs.declared.ty.Field.{Field}
 use Rattle.fc_types.specs.declared.ty.KeyDecl.{KeyDecl}
@@ -14,8 +14,8 @@ use Rattle.fc_value.specs.Keys.{key_value}
 use Rattle.fc_value.specs.Nodes.{child, child_layer}
 use Rattle.fc_value.specs.declared.value.Value.{Value, out-Value}
 use Rattle.fc_value.specs.declared.value.Value.TheOpen.{Value-F}
-use Rattle.fc_cells.specs.Places.{id_of, new_place, place, place_behind, place_from}
-use Rattle.fc_cells.proofs.Finds.{Entries, Entry, Found, found, found_at, has, no_some, some_same}
+use Rattle.fc_cells.specs.Places.{id_of, place, place_behind, place_from}
+use Rattle.fc_cells.proofs.Finds.{Entries, Entry, Found, found, found_at, has, no_some}
 
 abbrev pub Part : Type 0
 Part = ℕ × Ty × Value

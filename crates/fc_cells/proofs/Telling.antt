@@ -1,13 +1,12 @@
 -- The cells of a value tell it.
-use Rattle.std.proofs.Common.{◌≡◌, ℕ, zero, suc, ◌==◌, ◌<◌, nat_eq, Bool, true, false, not, ◌||◌, cond, List, [], ◌∷◌, ◌++◌, map, position, find, slice_get, refl, sym, ap, ap₂, subst, ◌∙◌, arith, Option, Some, None, option_map, option_and_then, Result, Ok, Err, if◌then◌else◌, ◌⊎◌, inl, inr, eqb-true}
+use Rattle.std.proofs.Common.{◌≡◌, ℕ, zero, suc, ◌==◌, ◌<◌, nat_eq, Bool, true, false, not, cond, List, [], ◌∷◌, ◌++◌, map, position, find, slice_get, refl, sym, ap, ap₂, ◌∙◌, arith, Option, Some, None, option_map, option_and_then, Result, Ok, Err, if◌then◌else◌, ◌⊎◌, inl, inr, eqb-true}
 use Rattle.std.specs.List.{AllByRecursion, list_any}
 use Rattle.fc_base.specs.Answers.{◌>>=◌}
-use Rattle.fc_path.specs.declared.oper.Step.{Step}
 use Rattle.fc_path.specs.declared.oper.Step.TheVariants as step
-use Rattle.fc_tree.specs.Finding.{entries_of, invalid_path, no_component, not_found, paired, walked}
+use Rattle.fc_tree.specs.Finding.{entries_of, paired, walked}
 use Rattle.fc_types.specs.Ids.{is_distinct}
 use Rattle.fc_types.specs.Sound.{IsSound, IsSoundInside, SoundLayer}
-use Rattle.fc_types.specs.Types.{field_id, field_ty, fields_of, is_atom, is_atom_layer}
+use Rattle.fc_types.specs.Types.{field_id, field_ty, is_atom, is_atom_layer}
 use Rattle.fc_types.specs.declared.ty.Field.{Field}
 use Rattle.fc_types.specs.declared.ty.KeyDecl.{KeyDecl}
 use Rattle.fc_types.specs.declared.ty.Ty.{Ty}
@@ -19,7 +18,7 @@ use Rattle.fc_value.specs.Fits.{EachFits, EntryFits, FitsIn, FitsLayer}
 use Rattle.fc_value.specs.FullForm.{AreRising}
 use Rattle.fc_value.specs.Keys.{field_with}
 use Rattle.fc_value.specs.Nodes.{child, child_layer}
-use Rattle.fc_value.specs.declared.value.Value.{Value, out-Value}
+use Rattle.fc_value.specs.declared.value.Value.{Value}
 use Rattle.fc_value.specs.declared.value.Value.TheVariants as value
 use Rattle.fc_cells.specs.Cells.{Cell, Atom, Node, by_ids, cell, cell_of, some_cell}
 use Rattle.fc_cells.proofs.Finds.{Entries, Entry, above_all, has, no_some, position_step, same_test, some_same, turned_test}

@@ -1,11 +1,17 @@
 -- The place to which a path leads: a step by an ID names the field or the entry itself, and a step by a key stands for the
 -- subscript of the entry whose key has the value (RFC 5810, section 7.1, on paths and keys; RFC 5812, section 4.5.3).
-use Rattle.std.specs.Prelude.{ℕ, ◌==◌, Bool, true, false, ◌&&◌, List, [], ◌∷◌, slice_get, option_map, Option, Some, None, Result, Ok, Err, if◌then◌else◌}
+use Rattle.std.specs.Prelude.{ℕ, ◌==◌, Bool, true, false, not, ◌&&◌, List, [], ◌∷◌, find, slice_get, option_map, Option, Some, None, Result, Ok, Err, if◌then◌else◌}
+use Rattle.std.specs.List.{list_any}
 use Rattle.fc_base.specs.Answers.{◌>>=◌}
 use Rattle.fc_path.specs.declared.oper.Step.{Step}
 use Rattle.fc_path.specs.declared.oper.Step.TheVariants as step
 use Rattle.fc_tree.specs.Finding.{entries_of, invalid_path, not_found, or_code, part_at, place_in}
+use Rattle.fc_types.specs.declared.ty.Field.{Field}
+use Rattle.fc_types.specs.declared.ty.KeyDecl.{KeyDecl}
 use Rattle.fc_types.specs.declared.ty.Ty.{Ty}
+use Rattle.fc_types.specs.declared.ty.Ty.TheOpen.{Ty-F}
+use Rattle.fc_types.specs.declared.ty.Ty.TheViews.{out-Ty}
+use Rattle.fc_value.specs.Sparse.{part_of}
 use Rattle.fc_value.specs.declared.value.Value.{Value}
 use Rattle.fc_wire.specs.declared.ilvs.Ilv.{Ilv}
 use Rattle.fc_cells.specs.Cells.{by_ids}
@@ -38,17 +44,36 @@ place (s ∷ path) ty v = place_in ty v s >>= place_from (place path) path s ty 
 abbrev pub at_place : {X : Type 0} → (List Step → Result X ℕ) → Result (List ℕ) ℕ → Result X ℕ
 at_place make found = found >>= λ ids. make (by_ids ids)
 
-abbrev pub is_id : Step → Bool
-is_id (step.Id id) = true
-is_id (step.Key id bytes) = false
+abbrev pub keys_layer : Ty-F Ty Field → List KeyDecl
+keys_layer (Ty-F.Array entry limit keys) = keys
+keys_layer _ = []
 
--- A path leaves the way to a place by a step to another part, and all its steps before are IDs: so no key by which it goes is that of
--- an entry in which the place lies. Its own place is given beside it.
-abbrev pub leaves : List ℕ → List Step → List ℕ → Bool
-leaves [] path others = false
-leaves (id ∷ ids) [] others = false
-leaves (id ∷ ids) (s ∷ path) [] = false
-leaves (id ∷ ids) (s ∷ path) (other ∷ others) = if id == other then is_id s && leaves ids path others else true
+-- the keys of an array, and none of another type
+abbrev pub keys_of : Ty → List KeyDecl
+keys_of ty = keys_layer (out-Ty ty)
+
+-- the key, if there is one, is made of other fields
+abbrev pub is_made_without : Option KeyDecl → ℕ → Bool
+is_made_without None id = true
+is_made_without (Some key) id = not (list_any (λ field. field == id) key.fields)
+
+-- a step by a key into an entry in which a place lies: the field in which the place lies is none of those of the key
+abbrev pub spares : Ty → Step → List ℕ → Bool
+spares ty (step.Id id) ids = true
+spares ty (step.Key n bytes) [] = false
+spares ty (step.Key n bytes) (id ∷ ids) = is_made_without (find (λ (key : KeyDecl). key.id == n) (keys_of ty)) id
+
+abbrev pub some_part : (Ty → Bool) → Option Ty → Bool
+some_part test None = false
+some_part test (Some part) = test part
+
+-- A path leaves the way to a place by a step to another part, and no key by which it goes on the way is made of a field in which the
+-- place lies. Its own place is given beside it.
+abbrev pub leaves : List ℕ → List Step → List ℕ → Ty → Bool
+leaves [] path others ty = false
+leaves (id ∷ ids) [] others ty = false
+leaves (id ∷ ids) (s ∷ path) [] ty = false
+leaves (id ∷ ids) (s ∷ path) (other ∷ others) ty = if id == other then spares ty s ids && some_part (leaves ids path others) (part_of ty id) else true
 
 -- one of the ILVs names the field or the entry
 abbrev pub is_named : List Ilv → ℕ → Bool

@@ -34,33 +34,33 @@ pub fn a_path_leads_to_one_place()
 {}
 
 /// A SET of FULLDATA at a place: what is found there is what the bytes are read as; where another place is neither above nor below it,
-/// there is what was there, or as before nothing; above it structs and arrays stay. A path of which no key is that of an entry in which
-/// something is put leads where it led, and finds what it found.
+/// there is what was there, or as before nothing; above it structs and arrays stay. A path that leaves the way to the place, and of which
+/// no key is made of a field in which something is put, leads where it led, and finds what it found.
 pub fn a_set_changes_one_place()
     ensures put { (ty : Ty) (v w : Value) (ids bytes : List ℕ) → put_in (by_ids ids) bytes ty v ≡ Ok w → (part : Ty) × (node : Value) × (walked (by_ids ids) ty w ≡ Ok (part, node)) × (full_in part bytes ≡ Ok node) }
     ensures other { (ty : Ty) (v w : Value) (ids bytes others : List ℕ) → put_in (by_ids ids) bytes ty v ≡ Ok w → are_apart ids others ≡ true → walked (by_ids others) ty w ≡ walked (by_ids others) ty v }
     ensures above { (ty : Ty) (v w : Value) (front : List ℕ) (id : ℕ) (ids bytes : List ℕ) → put_in (by_ids (front ++ id ∷ ids)) bytes ty v ≡ Ok w → (cell front ty v ≡ Some Node) × (cell front ty w ≡ Some Node) }
-    ensures path { (ty part : Ty) (v w node : Value) (ids bytes : List ℕ) (path : List Step) (others : List ℕ) → put_in (by_ids ids) bytes ty v ≡ Ok w → place path ty v ≡ Ok others → walked path ty v ≡ Ok (part, node) → leaves ids path others ≡ true → (place path ty w ≡ Ok others) × (walked path ty w ≡ Ok (part, node)) }
+    ensures path { (ty part : Ty) (v w node : Value) (ids bytes : List ℕ) (path : List Step) (others : List ℕ) → Fits ty v → put_in (by_ids ids) bytes ty v ≡ Ok w → place path ty v ≡ Ok others → walked path ty v ≡ Ok (part, node) → leaves ids path others ty ≡ true → (place path ty w ≡ Ok others) × (walked path ty w ≡ Ok (part, node)) }
 {}
 
 /// A merge at a place: at each field or entry that an ILV names, what is found is what its value is read as; at and under the others,
 /// and where another place is neither above nor below, there is what was there, or as before nothing; at the place and above it structs
-/// and arrays stay. A path to what is not named, of which no key is that of an entry in which something is changed, leads where it led, and finds what it found.
+/// and arrays stay. A path that leaves the way to each place that is named, and of which no key is made of a field in which something is
+/// changed, leads where it led, and finds what it found.
 pub fn a_merge_changes_what_it_names()
     ensures put { (ty : Ty) (v w : Value) (ids : List ℕ) (ilvs : List Ilv) → Fits ty v → merge_in (by_ids ids) ilvs ty v ≡ Ok w → AllByRecursion (λ (ilv : Ilv). (part : Ty) × (node : Value) × (walked (by_ids (ids ++ ilv.ident ∷ [])) ty w ≡ Ok (part, node)) × (full_in part ilv.value ≡ Ok node)) ilvs }
     ensures unnamed { (ty : Ty) (v w : Value) (ids : List ℕ) (ilvs : List Ilv) (id : ℕ) (others : List ℕ) → merge_in (by_ids ids) ilvs ty v ≡ Ok w → is_named ilvs id ≡ false → walked (by_ids (ids ++ id ∷ others)) ty w ≡ walked (by_ids (ids ++ id ∷ others)) ty v }
     ensures other { (ty : Ty) (v w : Value) (ids : List ℕ) (ilvs : List Ilv) (others : List ℕ) → merge_in (by_ids ids) ilvs ty v ≡ Ok w → are_apart ids others ≡ true → walked (by_ids others) ty w ≡ walked (by_ids others) ty v }
     ensures above { (ty : Ty) (v w : Value) (front ids : List ℕ) (ilvs : List Ilv) → merge_in (by_ids (front ++ ids)) ilvs ty v ≡ Ok w → (cell front ty v ≡ Some Node) × (cell front ty w ≡ Some Node) }
-    ensures unnamed_path { (ty part : Ty) (v w node : Value) (ids : List ℕ) (ilvs : List Ilv) (s : Step) (path : List Step) (id : ℕ) (others : List ℕ) → merge_in (by_ids ids) ilvs ty v ≡ Ok w → place (by_ids ids ++ s ∷ path) ty v ≡ Ok (ids ++ id ∷ others) → walked (by_ids ids ++ s ∷ path) ty v ≡ Ok (part, node) → is_named ilvs id ≡ false → (place (by_ids ids ++ s ∷ path) ty w ≡ Ok (ids ++ id ∷ others)) × (walked (by_ids ids ++ s ∷ path) ty w ≡ Ok (part, node)) }
-    ensures path { (ty part : Ty) (v w node : Value) (ids : List ℕ) (ilvs : List Ilv) (path : List Step) (others : List ℕ) → merge_in (by_ids ids) ilvs ty v ≡ Ok w → place path ty v ≡ Ok others → walked path ty v ≡ Ok (part, node) → leaves ids path others ≡ true → (place path ty w ≡ Ok others) × (walked path ty w ≡ Ok (part, node)) }
+    ensures path { (ty part : Ty) (v w node : Value) (ids : List ℕ) (first : Ilv) (more : List Ilv) (path : List Step) (others : List ℕ) → Fits ty v → merge_in (by_ids ids) (first ∷ more) ty v ≡ Ok w → place path ty v ≡ Ok others → walked path ty v ≡ Ok (part, node) → AllByRecursion (λ (ilv : Ilv). leaves (ids ++ ilv.ident ∷ []) path others ty ≡ true) (first ∷ more) → (place path ty w ≡ Ok others) × (walked path ty w ≡ Ok (part, node)) }
 {}
 
-/// A DEL of an entry: it is not found any more, by its subscript or by a key that led to it; where another place is neither above nor
-/// below it, there is what was there, or as before nothing; above it structs and arrays stay. A path of which no key is that of an
-/// entry from which something is taken leads where it led, and finds what it found.
+/// A DEL of an entry: it is not found any more, by no path that led to it, with keys or without; where another place is neither above nor
+/// below it, there is what was there, or as before nothing; above it structs and arrays stay. Every path to another place, which does
+/// not lie above or below, leads where it led, and finds what it found.
 pub fn a_removal_takes_one_entry()
-    ensures gone { (ty : Ty) (v w : Value) (front : List ℕ) (id : ℕ) (s : Step) → IsSound ty → Fits ty v → remove_in (by_ids (front ++ id ∷ [])) ty v ≡ Ok w → place (by_ids front ++ s ∷ []) ty v ≡ Ok (front ++ id ∷ []) → walked (by_ids front ++ s ∷ []) ty w ≡ Err not_found }
+    ensures gone { (ty : Ty) (v w : Value) (ids : List ℕ) (path : List Step) → IsSound ty → Fits ty v → remove_in (by_ids ids) ty v ≡ Ok w → place path ty v ≡ Ok ids → walked path ty w ≡ Err not_found }
     ensures other { (ty : Ty) (v w : Value) (ids others : List ℕ) → IsSound ty → Fits ty v → remove_in (by_ids ids) ty v ≡ Ok w → are_apart ids others ≡ true → walked (by_ids others) ty w ≡ walked (by_ids others) ty v }
     ensures above { (ty : Ty) (v w : Value) (front : List ℕ) (id : ℕ) (ids : List ℕ) → IsSound ty → Fits ty v → remove_in (by_ids (front ++ id ∷ ids)) ty v ≡ Ok w → (cell front ty v ≡ Some Node) × (cell front ty w ≡ Some Node) }
-    ensures path { (ty part : Ty) (v w node : Value) (ids : List ℕ) (path : List Step) (others : List ℕ) → IsSound ty → Fits ty v → remove_in (by_ids ids) ty v ≡ Ok w → place path ty v ≡ Ok others → walked path ty v ≡ Ok (part, node) → leaves ids path others ≡ true → (place path ty w ≡ Ok others) × (walked path ty w ≡ Ok (part, node)) }
+    ensures path { (ty part : Ty) (v w node : Value) (ids : List ℕ) (path : List Step) (others : List ℕ) → IsSound ty → Fits ty v → remove_in (by_ids ids) ty v ≡ Ok w → place path ty v ≡ Ok others → walked path ty v ≡ Ok (part, node) → are_apart ids others ≡ true → (place path ty w ≡ Ok others) × (walked path ty w ≡ Ok (part, node)) }
 {}

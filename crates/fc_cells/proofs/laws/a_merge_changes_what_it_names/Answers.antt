@@ -1,6 +1,6 @@
-use Rattle.fc_cells.proofs.Merging.{Merged, merge_under, merged_above, puts_are_found, unnamed_path, unnamed_stay}
-use Rattle.std.proofs.Common.{◌++◌}
-use Rattle.fc_cells.proofs.Under.{Never, others_stay, paths_stay}
+use Rattle.fc_cells.proofs.Merging.{Merged, merge_under, merged_above, puts_are_found, unmoved, unnamed_stay}
+use Rattle.std.proofs.Common.{◌++◌, ◌∷◌}
+use Rattle.fc_cells.proofs.Under.{Never, others_stay}
 use Rattle.fc_cells.proofs.laws.a_merge_changes_what_it_names.Goals as goal
 
 pub returns-clause-put : goal.returns-clause-put
@@ -15,8 +15,5 @@ returns-clause-other c = λ ty v w ids ilvs others e a. others_stay Never (Merge
 pub returns-clause-above : goal.returns-clause-above
 returns-clause-above c = λ ty v w front ids ilvs e. merged_above front ids ilvs ty v w (merge_under (front ++ ids) ilvs ty v w e)
 
-pub returns-clause-unnamed_path : goal.returns-clause-unnamed_path
-returns-clause-unnamed_path c = λ ty part v w node ids ilvs s path id others e p f n. unnamed_path ids ilvs s path id others ty v w (part, node) (merge_under ids ilvs ty v w e) p f n
-
 pub returns-clause-path : goal.returns-clause-path
-returns-clause-path c = λ ty part v w node ids ilvs path others e p f a. paths_stay Never (Merged ilvs) ids path others ty v w (part, node) (merge_under ids ilvs ty v w e) a p f
+returns-clause-path c = λ ty part v w node ids first more path others h e p f a. unmoved ids path 8 first more others ty v w (part, node) h (merge_under ids (first ∷ more) ty v w e) p f a

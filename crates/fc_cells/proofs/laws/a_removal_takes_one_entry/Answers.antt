@@ -1,10 +1,10 @@
-use Rattle.std.proofs.Common.{◌++◌, ◌∷◌, []}
-use Rattle.fc_cells.proofs.Removing.{Nothing, Taken, gone, removed_under}
-use Rattle.fc_cells.proofs.Under.{above_stays, others_stay, paths_stay}
+use Rattle.std.proofs.Common.{◌++◌, ◌∷◌}
+use Rattle.fc_cells.proofs.Removing.{Nothing, Taken, gone, remains, removed_under}
+use Rattle.fc_cells.proofs.Under.{above_stays, others_stay}
 use Rattle.fc_cells.proofs.laws.a_removal_takes_one_entry.Goals as goal
 
 pub returns-clause-gone : goal.returns-clause-gone
-returns-clause-gone c = λ ty v w front id s sound h e p. gone front 8 id s ty v w h (removed_under (front ++ id ∷ []) 8 ty v w sound h e) p
+returns-clause-gone c = λ ty v w ids path sound h e p. gone ids path 8 ty v w sound h e p
 
 pub returns-clause-other : goal.returns-clause-other
 returns-clause-other c = λ ty v w ids others sound h e a. others_stay Taken Nothing ids others ty v w (removed_under ids 8 ty v w sound h e) a
@@ -13,4 +13,4 @@ pub returns-clause-above : goal.returns-clause-above
 returns-clause-above c = λ ty v w front id ids sound h e. above_stays Taken Nothing front id ids ty v w (removed_under (front ++ id ∷ ids) 8 ty v w sound h e)
 
 pub returns-clause-path : goal.returns-clause-path
-returns-clause-path c = λ ty part v w node ids path others sound h e p f a. paths_stay Taken Nothing ids path others ty v w (part, node) (removed_under ids 8 ty v w sound h e) a p f
+returns-clause-path c = λ ty part v w node ids path others sound h e p f a. remains ids path 8 others ty v w (part, node) sound h e a p f

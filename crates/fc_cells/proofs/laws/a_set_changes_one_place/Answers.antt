@@ -13,4 +13,4 @@ pub returns-clause-above : goal.returns-clause-above
 returns-clause-above c = λ ty v w front id ids bytes e. above_stays (New bytes) (Read bytes) front id ids ty v w (set_under (front ++ id ∷ ids) bytes ty v w e)
 
 pub returns-clause-path : goal.returns-clause-path
-returns-clause-path c = λ ty part v w node ids bytes path others e p f a. paths_stay (New bytes) (Read bytes) ids path others ty v w (part, node) (set_under ids bytes ty v w e) a p f
+returns-clause-path c = λ ty part v w node ids bytes path others h e p f a. paths_stay (New bytes) (Read bytes) ids path 8 others ty v w (part, node) h (set_under ids bytes ty v w e) a p f
