@@ -75,8 +75,11 @@ pub child_beside : (v : Value) (i j : ℕ) (w : Value) → (i == j) ≡ false �
 child_beside v i j w h = ap (child_layer j) (out-roll-Value (with_child_layer i w (out-Value v))) ∙ layer_beside (out-Value v) i j w h
 
 -- ---- entries
+pub table_again : (es : Entries) → out-Value (value.Table es) ≡ Value-F.Table es
+table_again es = ap out-Value (sym (rolls-Table es)) ∙ out-roll-Value (Value-F.Table es)
+
 pub entries_again : (es : Entries) → entries_of (value.Table es) ≡ es
-entries_again es = ap entries_layer (ap out-Value (sym (rolls-Table es)) ∙ out-roll-Value (Value-F.Table es))
+entries_again es = ap entries_layer (table_again es)
 
 layer_entries : (l : Value-F Value) (i : ℕ) (x : Entry) (w : Value) → slice_get (entries_layer l) i ≡ Some x → entries_layer (with_child_layer i w l) ≡ slice_set (entries_layer l) i (x.0, w)
 layer_entries (Value-F.Truth t) i x w g = no_some x g

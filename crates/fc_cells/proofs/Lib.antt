@@ -1,5 +1,7 @@
+pub mod Arrays
 pub mod Beside
 pub mod Finds
+pub mod Fitting
 pub mod Keeping
 pub mod Merging
 pub mod Placing

@@ -64,10 +64,10 @@ merge_under [] ilvs ty v w e = merged_here ilvs ty v w (sparse_in ty ilvs) refl 
 merge_under (id ∷ ids) ilvs ty v w e = merge_step id ids (merge_under ids) ilvs ty v w (place_in ty v (step.Id id)) refl e
 
 -- ---- the changes that ILVs tell
-abbrev Tells : Ty → Ilv → Entry → Type 0
+abbrev pub Tells : Ty → Ilv → Entry → Type 0
 Tells ty ilv c = (part : Ty) × (part_of ty ilv.ident ≡ Some part) × (full_in part ilv.value ≡ Ok c.1)
 
-abbrev Told : Ty → Entries → List Ilv → Entries → Type 0
+abbrev pub Told : Ty → Entries → List Ilv → Entries → Type 0
 Told ty before [] [] = Unit {0}
 Told ty before [] (c ∷ cs) = ⊥
 Told ty before (ilv ∷ ilvs) [] = ⊥

@@ -47,7 +47,7 @@ module _ (n : ℕ) where
   field_fits (x ∷ xs) (v ∷ vs) zero f h g = (v, refl, subst (λ (y : Field). FitsIn n (field_ty y) v) (some_same x f g) h.0)
   field_fits (x ∷ xs) (v ∷ vs) (suc i) f h g = field_fits xs vs i f h.1 g
 
-  entry_fits : (entry : Ty) (es : Entries) (i : ℕ) (e : Entry) → AllByRecursion (EntryFits (FitsIn n) entry) es → slice_get es i ≡ Some e → FitsIn n entry e.1
+  pub entry_fits : (entry : Ty) (es : Entries) (i : ℕ) (e : Entry) → AllByRecursion (EntryFits (FitsIn n) entry) es → slice_get es i ≡ Some e → FitsIn n entry e.1
   entry_fits entry [] i e h g = no_some e g
   entry_fits entry (x ∷ xs) zero e h g = subst (λ (y : Entry). FitsIn n entry y.1) (some_same x e g) h.0.1
   entry_fits entry (x ∷ xs) (suc i) e h g = entry_fits entry xs i e h.1 g

@@ -84,7 +84,7 @@ taken_changed id ty v w t =
     }
 
 -- ---- what is sound of a part
-some_sound : (fields : List Field) (i : ℕ) (t : Ty) → AllByRecursion (λ f. IsSoundInside (field_ty f)) fields → option_map field_ty (slice_get fields i) ≡ Some t → IsSound t
+pub some_sound : (fields : List Field) (i : ℕ) (t : Ty) → AllByRecursion (λ f. IsSoundInside (field_ty f)) fields → option_map field_ty (slice_get fields i) ≡ Some t → IsSound t
 some_sound [] i t s e = no_some t e
 some_sound (f ∷ fs) zero t s e = subst IsSound (some_same (field_ty f) t e) s.0.sound
 some_sound (f ∷ fs) (suc i) t s e = some_sound fs i t s.1 e
@@ -117,7 +117,7 @@ pub record Below (ids : List ℕ) (id : ℕ) (ty : Ty) (v w : Value) : Type 0 wh
   pub made : remove_in (by_ids ids) part old ≡ Ok new
   pub is : with_child at new v ≡ w
 
-below : (id j : ℕ) (ids : List ℕ) (ty : Ty) (v w : Value) → remove_in (by_ids (id ∷ j ∷ ids)) ty v ≡ Ok w → Below (j ∷ ids) id ty v w
+pub below : (id j : ℕ) (ids : List ℕ) (ty : Ty) (v w : Value) → remove_in (by_ids (id ∷ j ∷ ids)) ty v ≡ Ok w → Below (j ∷ ids) id ty v w
 below id j ids ty v w e = by (place_in ty v (step.Id id)) refl e
   where
     last : (i : ℕ) → place_in ty v (step.Id id) ≡ Ok (Some i) → (x : Ty × Value) → part_at i ty v ≡ Some x → (r : Result Value ℕ) → remove_in (by_ids (j ∷ ids)) x.0 x.1 ≡ r
@@ -185,8 +185,21 @@ entry_keys j ids entry v w e key k = by (out-Ty entry) refl
     by (Ty-F.Struct fields) q = subst (λ (fs : List Field). key_value fs key w ≡ key_value fs key v) (sym (ap fields_layer q)) (in_struct fields q ids e)
     by (Ty-F.Array inner limit keys) q = none (Ty-F.Array inner limit keys) q refl
 
+-- entries still differ in their keys where something is taken from inside one of them
+pub differs_below : (n : ℕ) (id j : ℕ) (ids : List ℕ) (ty : Ty) (v w : Value) (entry : Ty) (limit : ℕ) (keys : List KeyDecl) → out-Ty ty ≡ Ty-F.Array entry limit keys → SoundLayer (Ty-F.Array entry limit keys)
+    → FitsLayer (FitsIn n) (Ty-F.Array entry limit keys) v → Below (j ∷ ids) id ty v w → keys_differ (fields_of entry) keys (entries_of w) ≡ true
+differs_below n id j ids ty v w entry limit keys q s h b =
+    let at : position (has id) (entries_of v) ≡ Some b.at = ok_same (position (has id) (entries_of v)) (Some b.at) (sym (array_place ty entry limit keys q v id) ∙ b.placed) in
+    let f : Found (has id) (entries_of v) b.at = found (has id) (entries_of v) b.at at in
+    let same : (entry, f.item.1) ≡ (b.part, b.old) = some_same (entry, f.item.1) (b.part, b.old) (sym (array_part ty entry limit keys q v b.at f.item f.got) ∙ b.here) in
+    let made : remove_in (by_ids (j ∷ ids)) entry f.item.1 ≡ Ok b.new = subst (λ (z : Ty × Value). remove_in (by_ids (j ∷ ids)) z.0 z.1 ≡ Ok b.new) (sym same) b.made in
+    let set : entries_of w ≡ slice_set (entries_of v) b.at (f.item.0, b.new) = ap entries_of (sym b.is) ∙ entries_set v b.at f.item b.new f.got in
+    let old : keys_differ (fields_of entry) keys (entries_of v) ≡ true = ap (keys_differ (fields_of entry) keys) (own_entries n ty entry limit keys q v h) ∙ h.2.keyed in
+    ap (keys_differ (fields_of entry) keys) set
+    ∙ differ_kept (fields_of entry) keys (entries_of v) b.at f.item b.new f.got s.made (λ key k. entry_keys j ids entry f.item.1 b.new made key k) old
+
 -- ---- one step down
-level_below : (n : ℕ) (id j : ℕ) (ids : List ℕ) (ty : Ty) (v w : Value) → IsSound ty → FitsIn (suc n) ty v → (b : Below (j ∷ ids) id ty v w) → Level id ty v w b.part b.old b.new × IsSound b.part
+pub level_below : (n : ℕ) (id j : ℕ) (ids : List ℕ) (ty : Ty) (v w : Value) → IsSound ty → FitsIn (suc n) ty v → (b : Below (j ∷ ids) id ty v w) → Level id ty v w b.part b.old b.new × IsSound b.part
 level_below n id j ids ty v w s h b = by (out-Ty ty) refl (level_is_sound ty s) h
   where
     none : (l : Ty-F Ty Field) → out-Ty ty ≡ l → is_atom_layer l ≡ true → Level id ty v w b.part b.old b.new × IsSound b.part
@@ -207,12 +220,8 @@ level_below n id j ids ty v w s h b = by (out-Ty ty) refl (level_is_sound ty s) 
         let at : position (has id) (entries_of v) ≡ Some b.at = ok_same (position (has id) (entries_of v)) (Some b.at) (sym (array_place ty entry limit keys q v id) ∙ b.placed) in
         let f : Found (has id) (entries_of v) b.at = found (has id) (entries_of v) b.at at in
         let same : (entry, f.item.1) ≡ (b.part, b.old) = some_same (entry, f.item.1) (b.part, b.old) (sym (array_part ty entry limit keys q v b.at f.item f.got) ∙ b.here) in
-        let made : remove_in (by_ids (j ∷ ids)) entry f.item.1 ≡ Ok b.new = subst (λ (z : Ty × Value). remove_in (by_ids (j ∷ ids)) z.0 z.1 ≡ Ok b.new) (sym same) b.made in
         let set : entries_of w ≡ slice_set (entries_of v) b.at (f.item.0, b.new) = ap entries_of (sym b.is) ∙ entries_set v b.at f.item b.new f.got in
-        let old : keys_differ (fields_of entry) keys (entries_of v) ≡ true = ap (keys_differ (fields_of entry) keys) (own_entries n ty entry limit keys q v h) ∙ h.2.keyed in
-        let new : keys_differ (fields_of entry) keys (entries_of w) ≡ true =
-        ap (keys_differ (fields_of entry) keys) set
-        ∙ differ_kept (fields_of entry) keys (entries_of v) b.at f.item b.new f.got s.made (λ key k. entry_keys j ids entry f.item.1 b.new made key k) old in
+        let new : keys_differ (fields_of entry) keys (entries_of w) ≡ true = differs_below n id j ids ty v w entry limit keys q s h b in
         (subst (λ (z : Ty × Value). Level id ty v w z.0 z.1 b.new) same (array_level ty entry limit keys q id b.at v w f.item b.new at f.got f.passes set new), subst IsSound (ap (λ (z : Ty × Value). z.0) same) s.inner.sound)
 
 -- a part from whose inside something is taken keeps each key

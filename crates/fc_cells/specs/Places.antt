@@ -1,7 +1,7 @@
 -- The place to which a path leads: a step by an ID names the field or the entry itself, and a step by a key stands for the
 -- subscript of the entry whose key has the value (RFC 5810, section 7.1, on paths and keys; RFC 5812, section 4.5.3).
-use Rattle.std.specs.Prelude.{ℕ, ◌==◌, Bool, true, false, not, ◌&&◌, List, [], ◌∷◌, find, slice_get, option_map, Option, Some, None, Result, Ok, Err, if◌then◌else◌}
-use Rattle.std.specs.List.{list_any}
+use Rattle.std.specs.Prelude.{ℕ, ◌<◌, ◌^◌, ◌==◌, Bool, true, false, not, ◌&&◌, List, [], ◌∷◌, find, slice_get, option_map, Option, Some, None, Result, Ok, Err, if◌then◌else◌}
+use Rattle.std.specs.List.{AllByRecursion, list_any}
 use Rattle.fc_base.specs.Answers.{◌>>=◌}
 use Rattle.fc_path.specs.declared.oper.Step.{Step}
 use Rattle.fc_path.specs.declared.oper.Step.TheVariants as step
@@ -79,3 +79,15 @@ leaves (id ∷ ids) (s ∷ path) (other ∷ others) ty = if id == other then spa
 abbrev pub is_named : List Ilv → ℕ → Bool
 is_named [] id = false
 is_named (ilv ∷ ilvs) id = if ilv.ident == id then true else is_named ilvs id
+
+-- an ID of 32 bits, as one that comes in a message
+abbrev pub IsWord : Step → Type 0
+IsWord (step.Id id) = id < 2 ^ 32
+IsWord (step.Key n bytes) = Unit {0}
+
+abbrev pub AreWords : List Step → Type 0
+AreWords path = AllByRecursion IsWord path
+
+-- the same of the identifiers of ILVs
+abbrev pub HaveWords : List Ilv → Type 0
+HaveWords ilvs = AllByRecursion (λ (ilv : Ilv). ilv.ident < 2 ^ 32) ilvs

@@ -12,9 +12,11 @@ ghost use Rattle.fc_value.specs.Fits.{Fits};
 ghost use Rattle.fc_value.specs.Nodes.{are_apart};
 ghost use Rattle.fc_value.specs.Reading.{full_in};
 ghost use Rattle.fc_value.specs.declared.value.Value.{Value};
+ghost use Rattle.fc_value.specs.SparseForm.{HoldBytes};
+ghost use Rattle.fc_wire.specs.Bytes.{AreBytes};
 ghost use Rattle.fc_wire.specs.declared.ilvs.Ilv.{Ilv};
 ghost use Rattle.fc_cells.specs.Cells.{Node, by_ids, cell};
-ghost use Rattle.fc_cells.specs.Places.{at_place, is_named, leaves, place};
+ghost use Rattle.fc_cells.specs.Places.{AreWords, HaveWords, at_place, is_named, leaves, place};
 
 /// A value that fits its type is told by its cells: two with the same cell at each place are the same. The cells under a place are those
 /// of what stands there.
@@ -63,4 +65,11 @@ pub fn a_removal_takes_one_entry()
     ensures other { (ty : Ty) (v w : Value) (ids others : List ℕ) → IsSound ty → Fits ty v → remove_in (by_ids ids) ty v ≡ Ok w → are_apart ids others ≡ true → walked (by_ids others) ty w ≡ walked (by_ids others) ty v }
     ensures above { (ty : Ty) (v w : Value) (front : List ℕ) (id : ℕ) (ids : List ℕ) → IsSound ty → Fits ty v → remove_in (by_ids (front ++ id ∷ ids)) ty v ≡ Ok w → (cell front ty v ≡ Some Node) × (cell front ty w ≡ Some Node) }
     ensures path { (ty part : Ty) (v w node : Value) (ids : List ℕ) (path : List Step) (others : List ℕ) → IsSound ty → Fits ty v → remove_in (by_ids ids) ty v ≡ Ok w → place path ty v ≡ Ok others → walked path ty v ≡ Ok (part, node) → are_apart ids others ≡ true → (place path ty w ≡ Ok others) × (walked path ty w ≡ Ok (part, node)) }
+{}
+
+/// A value that fits its type fits it after each SET, merge or DEL that is not refused, whose values are bytes and whose IDs have 32 bits.
+pub fn changes_keep_the_type()
+    ensures put { (ty : Ty) (v w : Value) (path : List Step) (bytes : List ℕ) → IsSound ty → Fits ty v → AreWords path → AreBytes bytes → put_in path bytes ty v ≡ Ok w → Fits ty w }
+    ensures merged { (ty : Ty) (v w : Value) (path : List Step) (ilvs : List Ilv) → IsSound ty → Fits ty v → HaveWords ilvs → HoldBytes ilvs → merge_in path ilvs ty v ≡ Ok w → Fits ty w }
+    ensures removed { (ty : Ty) (v w : Value) (path : List Step) → IsSound ty → Fits ty v → remove_in path ty v ≡ Ok w → Fits ty w }
 {}
