@@ -1,6 +1,7 @@
 -- What a DEL takes out.
-use Rattle.std.proofs.Common.{◌≡◌, ℕ, zero, suc, ◌==◌, Bool, true, false, List, [], ◌∷◌, position, find, slice_get, slice_set, refl, sym, ap, subst, ◌∙◌, Option, Some, None, option_map, option_and_then, Result, Ok, Err, if◌then◌else◌, inl, inr, eqb-true}
-use Rattle.std.specs.List.{AllByRecursion, remove}
+use Rattle.std.proofs.Common.{◌≡◌, ℕ, zero, suc, ◌==◌, Bool, true, false, ◌||◌, cond, List, [], ◌∷◌, ◌++◌, bytes_eq, position, find, slice_get, slice_set, refl, sym, ap, subst, ◌∙◌, Option, Some, None, option_map, option_and_then, Result, Ok, Err, ◌⊎◌, if◌then◌else◌, inl, inr, eqb-true}
+use Rattle.std.specs.List.{AllByRecursion, list_any, remove}
+use Rattle.std.proofs.lemmas.Slice.Eq.{bytes_eq-Decides}
 use Rattle.fc_base.specs.Answers.{◌>>=◌}
 use Rattle.fc_path.specs.declared.oper.Step.{Step}
 use Rattle.fc_path.specs.declared.oper.Step.TheVariants as step
@@ -13,6 +14,7 @@ use Rattle.fc_types.specs.declared.ty.KeyDecl.{KeyDecl}
 use Rattle.fc_types.specs.declared.ty.Ty.{Ty}
 use Rattle.fc_types.specs.declared.ty.Ty.TheOpen.{Ty-F}
 use Rattle.fc_types.specs.declared.ty.Ty.TheViews.{out-Ty}
+use Rattle.fc_types.proofs.Bools.{both}
 use Rattle.fc_types.proofs.Sounds.{level_is_sound}
 use Rattle.fc_value.specs.Fits.{FitsIn, FitsLayer}
 use Rattle.fc_value.specs.FullForm.{AreRising}
@@ -22,13 +24,13 @@ use Rattle.fc_value.specs.Outcomes.{invalid_parameters}
 use Rattle.fc_value.specs.declared.value.Value.{Value}
 use Rattle.fc_value.specs.declared.value.Value.TheVariants as value
 use Rattle.fc_cells.specs.Cells.{by_ids}
-use Rattle.fc_cells.specs.Places.{id_of, keys_layer, new_place, place, place_behind, place_from}
+use Rattle.fc_cells.specs.Places.{IsFree, id_of, keys_layer, keys_of, new_place, place, place_behind, place_from}
 use Rattle.fc_cells.proofs.Finds.{Entries, Entry, Found, In, all_in, find_remains, find_rising, find_without, found, found_at, has, in_found, key_free, no_some, none_left, other_test, some_same}
 use Rattle.fc_cells.proofs.Steps.{Led, Part, Went, array_key, array_part, array_place, behind_is, by_its_key, by_key_bytes, by_some_key, by_subscript, called, key_entry, key_of, led, no_ok, numbered, ok_same, one_entry, reached, reached_by, struct_part, struct_place, walked_by, walked_id, went, went_on}
 use Rattle.fc_cells.proofs.Beside.{Changed, KeepsKey, Level, array_beside, array_kept, array_level, entries_again, entries_set, paired_is, struct_level}
 use Rattle.fc_cells.proofs.Keeping.{differ_kept, key_kept, keyless}
 use Rattle.fc_cells.proofs.Placing.{part_fits, own_entries, rises}
-use Rattle.fc_cells.proofs.Under.{Keeps, Under, along, aside, moved, same_part}
+use Rattle.fc_cells.proofs.Under.{Keeps, Through, Under, along, aside, moved, same_part}
 
 -- the entry with a subscript is taken out of an array
 pub record Taken (id : ℕ) (ty : Ty) (v w : Value) : Type 0 where
@@ -387,6 +389,41 @@ module _ (n : ℕ) (id : ℕ) (ty : Ty) (v w : Value) (h : FitsIn (suc n) ty v) 
       let l : (x : Part) × (reached (step.Key m bytes) ty v ≡ Ok x) × (x.0 ≡ id) = key_led m bytes e in
       ap (λ (r : Result (Option ℕ) ℕ). r >>= stepped (walked []) ty w) (by_key_gone m bytes l.0 l.1 l.2)
 
+none_any : (p : Entry → Bool) (es : Entries) → find p es ≡ None → list_any p es ≡ false
+none_any p [] e = refl
+none_any p (x ∷ xs) e = by (none_any p xs) (p x) e
+  where
+    by : (find p xs ≡ None → list_any p xs ≡ false) → (b : Bool) → cond b (Some x) (find p xs) ≡ None → (b || list_any p xs) ≡ false
+    by more true e = absurd (cc)
+    by more false e = more e
+
+bytes_own : (k : List ℕ) → bytes_eq k k ≡ true
+bytes_own k = (bytes_eq-Decides k k).1 refl
+
+module _ (n : ℕ) (id : ℕ) (ty : Ty) (v w : Value) (h : FitsIn (suc n) ty v) (t : Taken id ty v w) where
+  free_of : (keys : List KeyDecl) → keys_differ (fields_of t.entry) keys (entries_of v) ≡ true → AllByRecursion (IsFree t.entry (there n id ty v w h t).item.1 w) keys
+  free_of [] d = tt
+  free_of (key ∷ keys) d =
+      let parts : (differ_in (fields_of t.entry) (entries_of v) key ≡ true) × (keys_differ (fields_of t.entry) keys (entries_of v) ≡ true) = both _ _ d in
+      let x : Found (has id) (entries_of v) t.at = there n id ty v w h t in
+      let k : List ℕ = key_value (fields_of t.entry) key x.item.1 in
+      let free : find (λ (e : Entry). bytes_eq (key_value (fields_of t.entry) key e.1) k) (remove (entries_of v) t.at) ≡ None =
+      key_free (λ (e : Entry). key_value (fields_of t.entry) key e.1) (entries_of v) t.at x.item k parts.0 x.got (bytes_own k) in
+      (none_any (λ (e : Entry). bytes_eq (key_value (fields_of t.entry) key e.1) k) (entries_of w) (ap (find (λ (e : Entry). bytes_eq (key_value (fields_of t.entry) key e.1) k)) t.left ∙ free), free_of keys parts.1)
+
+  free_here : (array entry : Ty) (node old : Value) → walked (step.Id id ∷ []) ty v ≡ Ok (entry, old) → walked [] ty w ≡ Ok (array, node) → AllByRecursion (IsFree entry old node) (keys_of array)
+  free_here array entry node old e f =
+      let x : Found (has id) (entries_of v) t.at = there n id ty v w h t in
+      let at : walked (step.Id id ∷ []) ty v ≡ Ok (t.entry, x.item.1) =
+      walked_id id [] ty v ∙ ap (λ (r : Result Part ℕ). r >>= went_on []) (by_subscript ty t.entry t.limit t.keys t.array v id)
+      ∙ ap (λ (o : Option Entry). one_entry ty t.entry t.limit t.keys t.array id o >>= went_on [])
+      (sym (found_at (has id) (entries_of v)) ∙ ap (option_and_then (slice_get (entries_of v))) t.placed ∙ x.got) in
+      let here : (t.entry, x.item.1) ≡ (entry, old) = ok_same (t.entry, x.item.1) (entry, old) (sym at ∙ e) in
+      let there : (ty, w) ≡ (array, node) = ok_same (ty, w) (array, node) f in
+      let keys : t.keys ≡ keys_of ty = sym (ap keys_layer t.array) in
+      subst (λ (z : Ty × Value). AllByRecursion (IsFree entry old z.1) (keys_of z.0)) there
+      (subst (AllByRecursion (IsFree entry old w)) keys (subst (λ (z : Ty × Value). AllByRecursion (IsFree z.0 z.1 w) t.keys) here (free_of t.keys (differ n id ty v w h t))))
+
 taken_last : (id : ℕ) (ty : Ty) (v w : Value) → remove_in (by_ids (id ∷ [])) ty v ≡ Ok w → Taken id ty v w
 taken_last id ty v w e = by (place_in ty v (step.Id id)) refl e
   where
@@ -515,3 +552,28 @@ remains (id ∷ []) (s ∷ path) n (j ∷ others) ty v w y sound h r a p e =
 remains (id ∷ k ∷ ids) (s ∷ path) zero (j ∷ others) ty v w y sound h r a p e = absurd h
 remains (id ∷ k ∷ ids) (s ∷ path) (suc n) (j ∷ others) ty v w y sound h r a p e =
     remains_below id k ids s path (remains (k ∷ ids) path) n j others ty v w y sound h r (led s path ty v j others y p e) (id == j) refl a
+
+-- ---- the keys of the entry are free
+abbrev Freed : List ℕ → Type 0
+Freed front = (n id : ℕ) (ty array entry : Ty) (v w node old : Value) → FitsIn n ty v → Removed (front ++ id ∷ []) ty v w → walked (by_ids (front ++ id ∷ [])) ty v ≡ Ok (entry, old) → walked (by_ids front) ty w ≡ Ok (array, node)
+    → AllByRecursion (IsFree entry old node) (keys_of array)
+
+freed_last : (n id : ℕ) (ty array entry : Ty) (v w node old : Value) → FitsIn (suc n) ty v → ((◌≡◌ {A = List ℕ} [] []) × Taken id ty v w) ⊎ Through (Removed []) id ty v w → walked (step.Id id ∷ []) ty v ≡ Ok (entry, old)
+    → walked [] ty w ≡ Ok (array, node) → AllByRecursion (IsFree entry old node) (keys_of array)
+freed_last n id ty array entry v w node old h (inl l) e f = free_here n id ty v w h l.1 array entry node old e f
+freed_last n id ty array entry v w node old h (inr m) e f = absurd m.4
+
+freed_below : (k : ℕ) (front : List ℕ) → Freed front → (n id : ℕ) (ty array entry : Ty) (v w node old : Value) → FitsIn (suc n) ty v → (((front ++ id ∷ []) ≡ []) × Taken k ty v w) ⊎ Through (Removed (front ++ id ∷ [])) k ty v w
+    → walked (by_ids (k ∷ front ++ id ∷ [])) ty v ≡ Ok (entry, old) → walked (by_ids (k ∷ front)) ty w ≡ Ok (array, node) → AllByRecursion (IsFree entry old node) (keys_of array)
+freed_below k [] more n id ty array entry v w node old h (inl l) e f = absurd (cc)
+freed_below k (j ∷ front) more n id ty array entry v w node old h (inl l) e f = absurd (cc)
+freed_below k front more n id ty array entry v w node old h (inr m) e f =
+    more n id m.0 array entry m.1 m.2 node old (part_fits n (step.Id k) ty v (k, m.0, m.1) h (went (step.Id k) ty v (k, m.0, m.1) m.3.before)) m.4
+    (sym (walked_id k (by_ids (front ++ id ∷ [])) ty v ∙ ap (λ (r : Result Part ℕ). r >>= went_on (by_ids (front ++ id ∷ []))) m.3.before) ∙ e)
+    (sym (walked_id k (by_ids front) ty w ∙ ap (λ (r : Result Part ℕ). r >>= went_on (by_ids front)) m.3.after) ∙ f)
+
+pub freed : (front : List ℕ) → Freed front
+freed [] zero id ty array entry v w node old h u e f = absurd h
+freed [] (suc n) id ty array entry v w node old h u e f = freed_last n id ty array entry v w node old h u.1 e f
+freed (k ∷ front) zero id ty array entry v w node old h u e f = absurd h
+freed (k ∷ front) (suc n) id ty array entry v w node old h u e f = freed_below k front (freed front) n id ty array entry v w node old h u.1 e f

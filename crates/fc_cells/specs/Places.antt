@@ -1,16 +1,18 @@
 -- The place to which a path leads: a step by an ID names the field or the entry itself, and a step by a key stands for the
 -- subscript of the entry whose key has the value (RFC 5810, section 7.1, on paths and keys; RFC 5812, section 4.5.3).
-use Rattle.std.specs.Prelude.{ℕ, ◌<◌, ◌^◌, ◌==◌, Bool, true, false, not, ◌&&◌, List, [], ◌∷◌, find, slice_get, option_map, Option, Some, None, Result, Ok, Err, if◌then◌else◌}
+use Rattle.std.specs.Prelude.{◌≡◌, ℕ, ◌<◌, ◌^◌, ◌==◌, Bool, true, false, not, ◌&&◌, List, [], ◌∷◌, bytes_eq, find, slice_get, option_map, Option, Some, None, Result, Ok, Err, if◌then◌else◌}
 use Rattle.std.specs.List.{AllByRecursion, list_any}
 use Rattle.fc_base.specs.Answers.{◌>>=◌}
 use Rattle.fc_path.specs.declared.oper.Step.{Step}
 use Rattle.fc_path.specs.declared.oper.Step.TheVariants as step
 use Rattle.fc_tree.specs.Finding.{entries_of, invalid_path, not_found, or_code, part_at, place_in}
+use Rattle.fc_types.specs.Types.{fields_of}
 use Rattle.fc_types.specs.declared.ty.Field.{Field}
 use Rattle.fc_types.specs.declared.ty.KeyDecl.{KeyDecl}
 use Rattle.fc_types.specs.declared.ty.Ty.{Ty}
 use Rattle.fc_types.specs.declared.ty.Ty.TheOpen.{Ty-F}
 use Rattle.fc_types.specs.declared.ty.Ty.TheViews.{out-Ty}
+use Rattle.fc_value.specs.Keys.{key_value}
 use Rattle.fc_value.specs.Sparse.{part_of}
 use Rattle.fc_value.specs.declared.value.Value.{Value}
 use Rattle.fc_wire.specs.declared.ilvs.Ilv.{Ilv}
@@ -74,6 +76,11 @@ leaves [] path others ty = false
 leaves (id ∷ ids) [] others ty = false
 leaves (id ∷ ids) (s ∷ path) [] ty = false
 leaves (id ∷ ids) (s ∷ path) (other ∷ others) ty = if id == other then spares ty s ids && some_part (leaves ids path others) (part_of ty id) else true
+
+-- no entry of an array has the value that a key has in this one
+abbrev pub IsFree : Ty → Value → Value → KeyDecl → Type 0
+IsFree entry old array key =
+    list_any (λ (e : ℕ × Value). bytes_eq (key_value (fields_of entry) key e.1) (key_value (fields_of entry) key old)) (entries_of array) ≡ false
 
 -- one of the ILVs names the field or the entry
 abbrev pub is_named : List Ilv → ℕ → Bool

@@ -16,7 +16,7 @@ ghost use Rattle.fc_value.specs.SparseForm.{HoldBytes};
 ghost use Rattle.fc_wire.specs.Bytes.{AreBytes};
 ghost use Rattle.fc_wire.specs.declared.ilvs.Ilv.{Ilv};
 ghost use Rattle.fc_cells.specs.Cells.{Node, by_ids, cell};
-ghost use Rattle.fc_cells.specs.Places.{AreWords, HaveWords, at_place, is_named, leaves, place};
+ghost use Rattle.fc_cells.specs.Places.{AreWords, HaveWords, IsFree, at_place, is_named, keys_of, leaves, place};
 
 /// A value that fits its type is told by its cells: two with the same cell at each place are the same. The cells under a place are those
 /// of what stands there.
@@ -57,11 +57,12 @@ pub fn a_merge_changes_what_it_names()
     ensures path { (ty part : Ty) (v w node : Value) (ids : List ℕ) (first : Ilv) (more : List Ilv) (path : List Step) (others : List ℕ) → Fits ty v → merge_in (by_ids ids) (first ∷ more) ty v ≡ Ok w → place path ty v ≡ Ok others → walked path ty v ≡ Ok (part, node) → AllByRecursion (λ (ilv : Ilv). leaves (ids ++ ilv.ident ∷ []) path others ty ≡ true) (first ∷ more) → (place path ty w ≡ Ok others) × (walked path ty w ≡ Ok (part, node)) }
 {}
 
-/// A DEL of an entry: it is not found any more, by no path that led to it, with keys or without; where another place is neither above nor
-/// below it, there is what was there, or as before nothing; above it structs and arrays stay. Every path to another place, which does
-/// not lie above or below, leads where it led, and finds what it found.
+/// A DEL of an entry: it is not found any more, by no path that led to it, with keys or without, and no entry of its array has one of its
+/// keys; where another place is neither above nor below it, there is what was there, or as before nothing; above it structs and arrays
+/// stay. Every path to another place, which does not lie above or below, leads where it led, and finds what it found.
 pub fn a_removal_takes_one_entry()
     ensures gone { (ty : Ty) (v w : Value) (ids : List ℕ) (path : List Step) → IsSound ty → Fits ty v → remove_in (by_ids ids) ty v ≡ Ok w → place path ty v ≡ Ok ids → walked path ty w ≡ Err not_found }
+    ensures free { (ty array entry : Ty) (v w node old : Value) (front : List ℕ) (id : ℕ) → IsSound ty → Fits ty v → remove_in (by_ids (front ++ id ∷ [])) ty v ≡ Ok w → walked (by_ids (front ++ id ∷ [])) ty v ≡ Ok (entry, old) → walked (by_ids front) ty w ≡ Ok (array, node) → AllByRecursion (IsFree entry old node) (keys_of array) }
     ensures other { (ty : Ty) (v w : Value) (ids others : List ℕ) → IsSound ty → Fits ty v → remove_in (by_ids ids) ty v ≡ Ok w → are_apart ids others ≡ true → walked (by_ids others) ty w ≡ walked (by_ids others) ty v }
     ensures above { (ty : Ty) (v w : Value) (front : List ℕ) (id : ℕ) (ids : List ℕ) → IsSound ty → Fits ty v → remove_in (by_ids (front ++ id ∷ ids)) ty v ≡ Ok w → (cell front ty v ≡ Some Node) × (cell front ty w ≡ Some Node) }
     ensures path { (ty part : Ty) (v w node : Value) (ids : List ℕ) (path : List Step) (others : List ℕ) → IsSound ty → Fits ty v → remove_in (by_ids ids) ty v ≡ Ok w → place path ty v ≡ Ok others → walked path ty v ≡ Ok (part, node) → are_apart ids others ≡ true → (place path ty w ≡ Ok others) × (walked path ty w ≡ Ok (part, node)) }
