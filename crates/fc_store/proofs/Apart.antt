@@ -28,14 +28,14 @@ abbrev puts : Stored → ℕ × ℕ → Option Value → Result Stored ℕ
 puts s place v = Ok (with_value s place v)
 
 -- a change that is made
-record Made (f : Change) (a : Spot) (s t : Stored) : Type 0 where
-  place : ℕ × ℕ
-  d : ComponentDecl
-  v : Option Value
-  leads : resolves a s ≡ Ok place
-  declared : declares a s place ≡ Some d
-  gives : makes f s place d ≡ Ok v
-  is : t ≡ with_value s place v
+pub record Made (f : Change) (a : Spot) (s t : Stored) : Type 0 where
+  pub place : ℕ × ℕ
+  pub d : ComponentDecl
+  pub v : Option Value
+  pub leads : resolves a s ≡ Ok place
+  pub declared : declares a s place ≡ Some d
+  pub gives : makes f s place d ≡ Ok v
+  pub is : t ≡ with_value s place v
 
 made_of : (f : Change) (a : Spot) (s t : Stored) (place : ℕ × ℕ) (d : ComponentDecl) (r : Result (Option Value) ℕ) → resolves a s ≡ Ok place → declares a s place ≡ Some d → makes f s place d ≡ r
     → (r >>= puts s place) ≡ Ok t → Made f a s t
@@ -50,7 +50,7 @@ made_at : (f : Change) (a : Spot) (s t : Stored) (r : Result (ℕ × ℕ) ℕ) �
 made_at f a s t (Err code) l g = absurd (err_ok code t g)
 made_at f a s t (Ok place) l g = made_in f a s t place (declares a s place) l refl g
 
-made : (f : Change) (a : Spot) (s t : Stored) → changed f a s ≡ Ok t → Made f a s t
+pub made : (f : Change) (a : Spot) (s t : Stored) → changed f a s ≡ Ok t → Made f a s t
 made f a s t g = made_at f a s t (resolves a s) refl g
 
 -- the places of spots at different instances differ
@@ -65,7 +65,7 @@ at_other : {A : Type 0} (f : A → A) (xs : List A) (i j : ℕ) (o : Option A) �
 at_other f xs i j None ne = refl
 at_other f xs i j (Some x) ne = get_other xs i j (f x) ne
 
-value_apart : (s : Stored) (i j : ℕ × ℕ) (v : Option Value) → (i.0 ≡ j.0 → ⊥) → value_in (with_value s i v) j ≡ value_in s j
+pub value_apart : (s : Stored) (i j : ℕ × ℕ) (v : Option Value) → (i.0 ≡ j.0 → ⊥) → value_in (with_value s i v) j ≡ value_in s j
 value_apart s i j v ne = ap (value_of j.1) (at_other (with_component i.1 v) s.trees i.0 j.0 (slice_get s.trees i.0) ne)
 
 with_apart : (s : Stored) (i j : ℕ × ℕ) (v w : Option Value) → (i.0 ≡ j.0 → ⊥) → with_value (with_value s i v) j w ≡ with_value (with_value s j w) i v

@@ -15,7 +15,7 @@ use Rattle.fc_store.proofs.Doing.{err_ok, ok_is}
 abbrev Declared : List ComponentDecl → ℕ → Type 0
 Declared components c = (d : ComponentDecl) × (slice_get components c ≡ Some d)
 
-if_ok : (b : Bool) (code i c : ℕ) → (let r : Result ℕ ℕ = if b then Ok i else Err code in r ≡ Ok c) → i ≡ c
+pub if_ok : (b : Bool) (code i c : ℕ) → (let r : Result ℕ ℕ = if b then Ok i else Err code in r ≡ Ok c) → i ≡ c
 if_ok true code i c e = ok_is i c e
 if_ok false code i c e = absurd (err_ok code c e)
 
@@ -24,7 +24,7 @@ allowed_is purpose.Read class component i c e = if_ok (may_read component.access
 allowed_is purpose.Look class component i c e = ok_is i c e
 allowed_is purpose.Write class component i c e = if_ok (may_write component.access && not (class == mastership)) read_only i c e
 
-by_component : (p : Purpose) (class : ℕ) (o : Option ComponentDecl) (i c : ℕ) → allowed_at p class i o ≡ Ok c → i ≡ c
+pub by_component : (p : Purpose) (class : ℕ) (o : Option ComponentDecl) (i c : ℕ) → allowed_at p class i o ≡ Ok c → i ≡ c
 by_component p class None i c e = absurd (err_ok no_component c e)
 by_component p class (Some component) i c e = allowed_is p class component i c e
 
@@ -40,7 +40,7 @@ by_id : (p : Purpose) (class : Class) (r : Result ℕ ℕ) (c : ℕ) → (r >>= 
 by_id p class (Err code) c e = absurd (err_ok code c e)
 by_id p class (Ok id) c e = by_position p class.id class.components id c (position (λ (d : ComponentDecl). d.id == id) class.components) refl e
 
-by_pair : (i : ℕ) (r : Result ℕ ℕ) (place : ℕ × ℕ) → paired i r ≡ Ok place → r ≡ Ok place.1
+pub by_pair : (i : ℕ) (r : Result ℕ ℕ) (place : ℕ × ℕ) → paired i r ≡ Ok place → r ≡ Ok place.1
 by_pair i (Err code) place e = absurd (err_ok code place e)
 by_pair i (Ok c) place e = ap (λ (q : ℕ × ℕ). Ok q.1) (ok_is (i, c) place e)
 

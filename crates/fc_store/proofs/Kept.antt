@@ -8,8 +8,8 @@ use Rattle.fc_instance.specs.Cells.{valued}
 use Rattle.fc_instance.specs.Histories.{Held, slot_cell, values_of}
 use Rattle.fc_instance.specs.declared.instance.Slot.{Slot}
 use Rattle.fc_store.specs.Scopes.{each_at, marked, marks_on, rolled, unmarked}
-use Rattle.fc_store.specs.Stores.{Stored, Tree, declared_in, depth_in, gone_back, held_at, map_from, mark_of, marks_of, opened, opening_tree, opens, over_mark, places_in, settled, settled_tree, with_mark, without_mark}
-use Rattle.fc_store.specs.Trees.{AreShaped, AreTrees, IsOfType, IsOpened, IsTree, IsTreeOf, Opens, Pairwise, held_then, plain, settled_held, stored, tree_of}
+use Rattle.fc_store.specs.Stores.{Pairwise, Stored, Tree, declared_in, depth_in, gone_back, held_at, map_from, mark_of, marks_of, opened, opening_tree, opens, over_mark, places_in, settled, settled_tree, with_mark, without_mark}
+use Rattle.fc_store.specs.Trees.{AreShaped, AreTrees, IsOfType, IsOpened, IsTree, IsTreeOf, Opens, held_then, plain, settled_held, stored, tree_of}
 use Rattle.fc_store.proofs.Lists.{all_index, all_more, all_take, get_map, index_map, length_map, map_append, map_each, map_map_from, map_same, pair_each, pair_from, pair_same, pair_take, pair_weaker}
 
 same_tree : (s t : Tree) → s.now ≡ t.now → s.held ≡ t.held → s ≡ t

@@ -1,7 +1,11 @@
 pub mod Apart
+pub mod Beside
 pub mod Doing
 pub mod Found
+pub mod FoundAgain
 pub mod Kept
 pub mod Lists
+pub mod PutBeside
+pub mod PutFound
 pub mod Returning
 pub mod Scoped

@@ -3,8 +3,7 @@ use Rattle.std.proofs.Common.{◌≡◌, ℕ, zero, suc, ◌+◌, ◌<◌, Bool,
 use Rattle.std.specs.List.{AllByRecursion, position_or_len}
 use Rattle.std.proofs.lemmas.Bool.Decides.{nat_tests}
 use Rattle.fc_store.specs.Scopes.{at, at_one, each_at}
-use Rattle.fc_store.specs.Stores.{map_from}
-use Rattle.fc_store.specs.Trees.{Pairwise}
+use Rattle.fc_store.specs.Stores.{Pairwise, map_from}
 
 pub none_some : {A : Type 0} (x : A) → None ≡ Some x → ⊥
 none_some x e = cc
@@ -220,6 +219,18 @@ pair_same f g R [] [] w p = refl
 pair_same f g R [] (z ∷ ys) w p = absurd p
 pair_same f g R (x ∷ xs) [] w p = absurd p
 pair_same f g R (x ∷ xs) (y ∷ ys) w p = ap (λ z. z ∷ map g ys) (w x y p.0) ∙ ap (λ zs. f x ∷ zs) (pair_same f g R xs ys w p.1)
+
+pub pair_length : {A B : Type 0} (R : A → B → Type 0) (xs : List A) (ys : List B) → Pairwise R xs ys → length ys ≡ length xs
+pair_length R [] [] p = refl
+pair_length R [] (z ∷ ys) p = absurd p
+pair_length R (x ∷ xs) [] p = absurd p
+pair_length R (x ∷ xs) (y ∷ ys) p = let n : length ys ≡ length xs = pair_length R xs ys p.1 in omega (arith, n)
+
+pub pair_map : {A B C : Type 0} (R : A → B → Type 0) (S : A → C → Type 0) (f : B → C) (xs : List A) (ys : List B) → ((x : A) (y : B) → R x y → S x (f y)) → Pairwise R xs ys → Pairwise S xs (map f ys)
+pair_map R S f [] [] w p = p
+pair_map R S f [] (z ∷ ys) w p = absurd p
+pair_map R S f (x ∷ xs) [] w p = absurd p
+pair_map R S f (x ∷ xs) (y ∷ ys) w p = (w x y p.0, pair_map R S f xs ys w p.1)
 
 -- ---- what holds of all
 pub all_more : {A : Type 0} (P : A → Type 0) (xs : List A) (x : A) → AllByRecursion P xs → P x → AllByRecursion P (xs ++ x ∷ [])

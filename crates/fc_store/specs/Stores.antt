@@ -7,6 +7,7 @@ use Rattle.fc_base.specs.Answers.{◌>>=◌}
 use Rattle.fc_base.specs.declared.faults.OpFault.{OpFault}
 use Rattle.fc_path.specs.declared.oper.Spot.{Spot}
 use Rattle.fc_path.specs.declared.oper.Step.{Step}
+use Rattle.fc_path.specs.declared.oper.Step.TheVariants as step
 use Rattle.fc_tree.specs.Finding.{no_component}
 use Rattle.fc_types.specs.BuiltIn.{is_live}
 use Rattle.fc_types.specs.Components.{ComponentDecl}
@@ -16,6 +17,7 @@ use Rattle.fc_types.specs.contracts.class.Class as class_contracts
 use Rattle.fc_types.specs.declared.ty.Ty.{Ty}
 use Rattle.fc_value.specs.Opening.{opening}
 use Rattle.fc_value.specs.Outcomes.{Fails}
+use Rattle.fc_value.specs.Reading.{full_in}
 use Rattle.fc_value.specs.declared.value.Value.{Value}
 use Rattle.fc_value.specs.declared.value.Value.TheVariants as value
 use Rattle.fc_value.specs.contracts.value.Value as value_contracts
@@ -92,6 +94,20 @@ opening_tree library pair = record { now = map (opens pair.0) (declared_in libra
 abbrev pub opened : List Class → List (ℕ × ℕ) → Stored
 opened library instances = record { library = library; instances = instances; trees = map (opening_tree library) instances }
 
+-- two lists of one length whose members belong together, place by place
+abbrev pub Pairwise : {A B : Type 0} → (A → B → Type 0) → List A → List B → Type 0
+Pairwise R [] [] = Unit {0}
+Pairwise R [] (y ∷ ys) = ⊥
+Pairwise R (x ∷ xs) [] = ⊥
+Pairwise R (x ∷ xs) (y ∷ ys) = R x y × Pairwise R xs ys
+
+-- each instance has a value, or none, for each component of its class
+abbrev pub IsWholeTree : List Class → ℕ × ℕ → Tree → Type 0
+IsWholeTree library pair t = length t.now ≡ length (declared_in library pair.0)
+
+abbrev pub IsWhole : Stored → Type 0
+IsWhole s = Pairwise (IsWholeTree s.library) s.instances s.trees
+
 -- ---- one component
 abbrev pub present : Option (Option Value) → Option Value
 present None = None
@@ -158,6 +174,29 @@ abbrev pub seen : Purpose → Spot → Stored → Result (Ty × Value) ℕ
 seen p spot s =
     resolved p s.library s.instances spot.class spot.instance spot.steps
     >>= λ place. seen_at spot s place (slice_get (declared_in s.library spot.class) place.1)
+
+-- all steps are IDs
+abbrev pub AreIds : List Step → Type 0
+AreIds [] = Unit {0}
+AreIds (step.Id id ∷ ss) = AreIds ss
+AreIds (step.Key id bytes ∷ ss) = ⊥
+
+-- two ways that part at IDs which differ
+abbrev pub DoPart : List Step → List Step → Type 0
+DoPart [] ts = ⊥
+DoPart (step.Id a ∷ ss) [] = ⊥
+DoPart (step.Key k key ∷ ss) [] = ⊥
+DoPart (step.Id a ∷ ss) (step.Id b ∷ ts) = a ≡ b → DoPart ss ts
+DoPart (step.Id a ∷ ss) (step.Key k key ∷ ts) = ⊥
+DoPart (step.Key k key ∷ ss) (t ∷ ts) = ⊥
+
+-- two spots at different instances, or whose ways part
+abbrev pub AreBeside : Spot → Spot → Type 0
+AreBeside a b = a.class ≡ b.class → a.instance ≡ b.instance → DoPart a.steps b.steps
+
+-- a node is found, and it is the value of its type that these bytes are
+abbrev pub Found : List ℕ → Result (Ty × Value) ℕ → Type 0
+Found bytes found = (x : Ty × Value) × (found ≡ Ok x) × (full_in x.0 bytes ≡ Ok x.1)
 
 -- what a call answers and what stands then: what is meant, or after the code of a refusal, and for want of memory, what stood before
 abbrev pub Did : Result (Unit {0}) OpFault → Result Stored ℕ → Stored → Stored → Type 0

@@ -1,5 +1,5 @@
 -- What a store keeps of the instances beside their values: each component lies in the form of its type. This profile's own.
-use Rattle.std.specs.Prelude.{◌≡◌, ◌<◌, ℕ, List, [], ◌∷◌, length, map, slice_get, slice_set, slice_index_or, Option, Some, None, Result, Ok, Err}
+use Rattle.std.specs.Prelude.{◌≡◌, ◌<◌, ℕ, List, [], length, map, slice_get, slice_set, slice_index_or, Option, Some, None, Result, Ok, Err}
 use Rattle.std.specs.List.{AllByRecursion}
 use Rattle.fc_base.specs.declared.faults.OpFault.{OpFault}
 use Rattle.fc_types.specs.Components.{ComponentDecl}
@@ -10,7 +10,7 @@ use Rattle.fc_value.specs.declared.value.Value.{Value}
 use Rattle.fc_instance.specs.Cells.{IsShaped, cell_at, valued}
 use Rattle.fc_instance.specs.Histories.{Cell, Held, Values}
 use Rattle.fc_store.specs.Scopes.{at}
-use Rattle.fc_store.specs.Stores.{Components, Stored, Tree, declared_in, depth_in, opens}
+use Rattle.fc_store.specs.Stores.{Components, Pairwise, Stored, Tree, declared_in, depth_in, opens}
 
 -- the values of what is seen of an instance
 abbrev pub plain : Values → Components
@@ -21,13 +21,6 @@ tree_of h = record { now = plain h.now; held = map plain h.held }
 
 abbrev pub stored : List Class → List (ℕ × ℕ) → List Held → Stored
 stored library instances hs = record { library = library; instances = instances; trees = map tree_of hs }
-
--- two lists of one length whose members belong together, place by place
-abbrev pub Pairwise : {A B : Type 0} → (A → B → Type 0) → List A → List B → Type 0
-Pairwise R [] [] = Unit {0}
-Pairwise R [] (y ∷ ys) = ⊥
-Pairwise R (x ∷ xs) [] = ⊥
-Pairwise R (x ∷ xs) (y ∷ ys) = R x y × Pairwise R xs ys
 
 abbrev pub IsOfType : ComponentDecl → Option Cell → Type 0
 IsOfType component cell = IsShaped component.ty cell

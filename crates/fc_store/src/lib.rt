@@ -11,6 +11,9 @@ mod spots;
 mod store;
 
 pub use fc_tree::walk;
-pub use laws::{found_components_are_declared, instances_apart, marks_give_back};
+pub use laws::{
+    found_components_are_declared, instances_apart, marks_give_back, what_is_beside_stays,
+    what_is_put_is_found,
+};
 pub use spots::{Purpose, resolve};
 pub use store::{Store, StoreMark};

@@ -2,8 +2,8 @@
 ghost use Rattle.std.specs.Prelude.{◌≡◌, IfOk};
 ghost use Rattle.fc_instance.specs.Histories.{slot_cell, values_of};
 ghost use Rattle.fc_store.specs.Stores as spec;
-ghost use Rattle.fc_store.specs.Stores.{declared_in, number_or};
-ghost use Rattle.fc_store.specs.Trees.{IsOpened, Opens, Pairwise};
+ghost use Rattle.fc_store.specs.Stores.{Pairwise, declared_in, number_or};
+ghost use Rattle.fc_store.specs.Trees.{IsOpened, Opens};
 
 use fc_base::Memory;
 use fc_instance::{Instance, Slot};

@@ -1,7 +1,7 @@
 // What an element's instances hold.
 ghost use Rattle.std.specs.Prelude.{◌≡◌, [], IfOk, OnErr};
 ghost use Rattle.fc_value.specs.Outcomes.{Gives};
-ghost use Rattle.fc_store.specs.Stores.{Did, depth_of, gone_back, mark_of, merge_spot, opened, over_mark, put_spot, remove_spot, seen, settled, with_mark, without_mark};
+ghost use Rattle.fc_store.specs.Stores.{Did, IsWhole, depth_of, gone_back, mark_of, merge_spot, opened, over_mark, put_spot, remove_spot, seen, settled, with_mark, without_mark};
 ghost use Rattle.fc_store.specs.declared.spots.Purpose.TheVariants as purpose;
 
 use crate::changes::{merge_at, put_at, remove_at};
@@ -98,9 +98,10 @@ impl Store {
         &self.library
     }
 
-    /// The instances that the store was made with.
+    /// The instances that the store was made with, each of which has a value, or none, for each component of its class.
     pub fn instances(&self) -> &Instances
-        ensures { result.now ≡ self.now.instances }
+        ensures same { result.now ≡ self.now.instances }
+        ensures whole { IsWhole self.now }
     {
         &self.instances
     }

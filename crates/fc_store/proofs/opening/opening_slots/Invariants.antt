@@ -1,6 +1,7 @@
 use Rattle.std.proofs.Common.{take}
 use Rattle.fc_instance.specs.Histories.{values_of}
-use Rattle.fc_store.specs.Trees.{Opens, Pairwise}
+use Rattle.fc_store.specs.Stores.{Pairwise}
+use Rattle.fc_store.specs.Trees.{Opens}
 use Rattle.fc_store.proofs.opening.opening_slots.Given as goal
 
 abbrev pub invariant-loop-component : goal.invariant-loop-component
