@@ -36,7 +36,7 @@ transaction_type =
 abbrev pub opening_type : Ty
 opening_type =
     type.Struct (field 1 (codes "epoch") word ∷ field 2 (codes "number") word ∷ field 3 (codes "participants") (words 64)
-        ∷ field 4 (codes "instances") (array_of instance_type 4096) ∷ [])
+    ∷ field 4 (codes "instances") (array_of instance_type 4096) ∷ [])
 
 -- records differ in epoch and number
 abbrev pub transaction_key : KeyDecl

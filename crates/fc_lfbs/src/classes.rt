@@ -37,14 +37,35 @@ fn fe_object(alloc: Global) -> Result<Class, Memory>
     ensures { IfOk result (λ class. class ≡ spec.fe_object) }
 {
     let mut components = List::new(alloc);
-    declare(alloc, &mut components, 1, "LFBTopology", Kind::Words(65_536), 1)?;
-    declare(alloc, &mut components, 2, "LFBSelectors", Kind::Selectors, 1)?;
+    declare(
+        alloc,
+        &mut components,
+        1,
+        "LFBTopology",
+        Kind::Words(65_536),
+        1,
+    )?;
+    declare(
+        alloc,
+        &mut components,
+        2,
+        "LFBSelectors",
+        Kind::Selectors,
+        1,
+    )?;
     declare(alloc, &mut components, 3, "FEName", Kind::Name, 3)?;
     declare(alloc, &mut components, 4, "FEID", Kind::Word, 1)?;
     declare(alloc, &mut components, 5, "FEVendor", Kind::Name, 1)?;
     declare(alloc, &mut components, 6, "FEModel", Kind::Name, 1)?;
     declare(alloc, &mut components, 7, "FEState", Kind::Byte, 3)?;
-    declare(alloc, &mut components, 8, "FENeighbors", Kind::Words(65_536), 1)?;
+    declare(
+        alloc,
+        &mut components,
+        8,
+        "FENeighbors",
+        Kind::Words(65_536),
+        1,
+    )?;
     Ok(Class {
         id: FE_OBJECT,
         name: Text::from_str(alloc, "FEObject")?,
@@ -72,9 +93,23 @@ fn fe_protocol(alloc: Global) -> Result<Class, Memory>
     ensures { IfOk result (λ class. class ≡ spec.fe_protocol) }
 {
     let mut components = List::new(alloc);
-    declare(alloc, &mut components, 1, "CurrentRunningVersion", Kind::Byte, 1)?;
+    declare(
+        alloc,
+        &mut components,
+        1,
+        "CurrentRunningVersion",
+        Kind::Byte,
+        1,
+    )?;
     declare(alloc, &mut components, 2, "FEID", Kind::Word, 1)?;
-    declare(alloc, &mut components, 3, "MulticastFEIDs", Kind::Words(65_536), 1)?;
+    declare(
+        alloc,
+        &mut components,
+        3,
+        "MulticastFEIDs",
+        Kind::Words(65_536),
+        1,
+    )?;
     declare(alloc, &mut components, 4, "CEHBPolicy", Kind::Policy, 3)?;
     declare(alloc, &mut components, 5, "CEHDI", Kind::Word, 3)?;
     declare(alloc, &mut components, 6, "FEHBPolicy", Kind::Policy, 3)?;
@@ -99,7 +134,14 @@ fn mastership(alloc: Global) -> Result<Class, Memory>
     let mut components = List::new(alloc);
     declare(alloc, &mut components, 1, "Epoch", Kind::Word, 1)?;
     declare(alloc, &mut components, 2, "Master", Kind::Word, 1)?;
-    declare(alloc, &mut components, 3, "Transactions", Kind::Transactions, 1)?;
+    declare(
+        alloc,
+        &mut components,
+        3,
+        "Transactions",
+        Kind::Transactions,
+        1,
+    )?;
     declare(alloc, &mut components, 4, "Opening", Kind::Opening, 2)?;
     declare(alloc, &mut components, 5, "Subject", Kind::Subject, 2)?;
     declare(alloc, &mut components, 7, "Held", Kind::Transactions, 1)?;

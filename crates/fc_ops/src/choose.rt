@@ -9,8 +9,8 @@ ghost use Rattle.fc_ops.specs.Choosing.{going, spare, small, gone, narrowed, lea
 
 use crate::{Content, Offers, content_size};
 use fc_base::{Code, List, Memory};
-use std::alloc::Global;
 use fc_path::{Body, PathData, path_size};
+use std::alloc::Global;
 
 // The greatest length of a TLV, in bytes.
 const TLV: usize = 65_535;
