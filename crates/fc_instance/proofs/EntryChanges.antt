@@ -25,7 +25,7 @@ use Rattle.fc_instance.specs.Cells.{Changed, merge_cell, put_cell, remove_cell, 
 use Rattle.fc_instance.specs.Components.{Changes, entry_at_subscript, if_taken, put_entry, rekeyed, row_put, table}
 use Rattle.fc_instance.specs.Histories.{Cell, Values, put_among, with_entry}
 use Rattle.fc_instance.specs.declared.components.EntryPath.{EntryPath}
-use Rattle.fc_instance.specs.Leading.{Leads, LeadsBy, at_entry, entry_less, first_place, row_merge, through}
+use Rattle.fc_instance.specs.Leading.{IsPath, Leads, LeadsBy, at_entry, entry_less, first_place, row_merge, through}
 use Rattle.fc_instance.proofs.Bridge.{place_of_subscript, row_less, row_merged, rows_put}
 use Rattle.fc_instance.proofs.Failing.{failed_as, failed_on}
 use Rattle.fc_instance.proofs.Rowing.{rows_again}
@@ -212,14 +212,21 @@ removes_at : (ty entry : Ty) (t : Step) (c limit s : ℕ) (old : Values) (steps 
     → through (remove_in steps ty) (value_at c old) ≡ (at_entry (entry_less rest entry) (entry_at_subscript s (slice_get old c)) >>= made l.rows s)
 removes_at ty entry t c limit s old steps rest l e = ap (λ (ss : List Step). through (remove_in ss ty) (value_at c old)) e ∙ row_removes ty entry t (slice_get old c) limit s rest l
 
-pub row_not_removed : (ty entry : Ty) (t : Step) (c limit s : ℕ) (old : Values) (steps rest : List Step) (fault : OpFault) → Leads ty t (slice_get old c) entry limit s → steps ≡ t ∷ rest
-    → Fails fault (at_entry (entry_less rest entry) (entry_at_subscript s (slice_get old c))) → Fails fault (through (remove_in steps ty) (value_at c old))
-row_not_removed ty entry t c limit s old steps rest fault l e h =
-    failed_as fault (at_entry (entry_less rest entry) (entry_at_subscript s (slice_get old c))) (through (remove_in steps ty) (value_at c old))
-    (λ code f. removes_at ty entry t c limit s old steps rest l e ∙ ap (λ (r : Result (Option Value) ℕ). r >>= made l.rows s) f) h
+pub row_not_removed : (ty : Ty) (c : ℕ) (old : Values) (steps : List Step) (path : EntryPath) (fault : OpFault) → IsPath ty steps (slice_get old c) path
+    → Fails fault (at_entry (entry_less path.rest.now path.entry.now) (entry_at_subscript path.subscript (slice_get old c))) → Fails fault (through (remove_in steps ty) (value_at c old))
+row_not_removed ty c old [] path fault p h = absurd p
+row_not_removed ty c old (t ∷ ts) path fault p h =
+    failed_as fault (at_entry (entry_less path.rest.now path.entry.now) (entry_at_subscript path.subscript (slice_get old c))) (through (remove_in (t ∷ ts) ty) (value_at c old))
+    (λ code f. removes_at ty path.entry.now t c path.limit path.subscript old (t ∷ ts) path.rest.now p.0 (ap (λ (ss : List Step). t ∷ ss) (sym p.1)) ∙ ap (λ (r : Result (Option Value) ℕ). r >>= made p.0.rows path.subscript) f) h
 
-pub row_is_removed : (ty entry : Ty) (t : Step) (c limit s : ℕ) (old new : Values) (steps rest : List Step) (o : Option Value) (done : Bool) → Leads ty t (slice_get old c) entry limit s → steps ≡ t ∷ rest
-    → at_entry (entry_less rest entry) (entry_at_subscript s (slice_get old c)) ≡ Ok o → done ≡ true → new ≡ (if done then with_entry c s o old else old) → Changed (Ok tt) (through (remove_in steps ty) (value_at c old)) ty c old new
-row_is_removed ty entry t c limit s old new steps rest o done l e f d n =
-    by_entry (Ok tt) ty entry t c limit s old new o (through (remove_in steps ty) (value_at c old)) l
-    (removes_at ty entry t c limit s old steps rest l e ∙ ap (λ (r : Result (Option Value) ℕ). r >>= made l.rows s) f) refl (n ∙ ap (λ (b : Bool). if b then with_entry c s o old else old) d)
+pub row_is_removed : (ty : Ty) (c : ℕ) (old new : Values) (steps : List Step) (path : EntryPath) (o : Option Value) (done : Bool) → IsPath ty steps (slice_get old c) path
+    → at_entry (entry_less path.rest.now path.entry.now) (entry_at_subscript path.subscript (slice_get old c)) ≡ Ok o → done ≡ true → new ≡ (if done then with_entry c path.subscript o old else old)
+    → Changed (Ok tt) (through (remove_in steps ty) (value_at c old)) ty c old new
+row_is_removed ty c old new [] path o done p f d n = absurd p
+row_is_removed ty c old new (t ∷ ts) path o done p f d n =
+    by_entry (Ok tt) ty path.entry.now t c path.limit path.subscript old new o (through (remove_in (t ∷ ts) ty) (value_at c old)) p.0
+    (removes_at ty path.entry.now t c path.limit path.subscript old (t ∷ ts) path.rest.now p.0 (ap (λ (ss : List Step). t ∷ ss) (sym p.1)) ∙ ap (λ (r : Result (Option Value) ℕ). r >>= made p.0.rows path.subscript) f) refl
+    (n ∙ ap (λ (b : Bool). if b then with_entry c path.subscript o old else old) d)
+
+pub leads_along : (ty : Ty) (cell : Option (Option Cell)) (steps rest : List Step) (first : Step) (o : Option EntryPath) (path : EntryPath) → steps ≡ first ∷ rest → o ≡ Some path → LeadsBy ty first rest cell (Ok o) → IsPath ty steps cell path
+leads_along ty cell steps rest first o path e q h = subst (λ (ss : List Step). IsPath ty ss cell path) (sym e) (path_is ty first rest cell o path q h)

@@ -61,10 +61,15 @@ abbrev pub first_place : Step → Ty → Option Value → Result (Option ℕ) �
 first_place t ty None = Err not_found
 first_place t ty (Some v) = place_in ty v t
 
+-- steps lead to an entry of a component, and on within it
+abbrev pub IsPath : Ty → List Step → Option (Option Cell) → EntryPath → Type 0
+IsPath ty [] cell path = ⊥
+IsPath ty (t ∷ ts) cell path = Leads ty t cell path.entry.now path.limit path.subscript × (path.rest.now ≡ ts)
+
 -- the path to an entry, or none where entries are not kept apart, or the code of the step
 abbrev pub LeadsBy : Ty → Step → List Step → Option (Option Cell) → Result (Option EntryPath) OpFault → Type 0
 LeadsBy ty t rest cell (Ok None) = Unit {0}
-LeadsBy ty t rest cell (Ok (Some path)) = Leads ty t cell path.entry.now path.limit path.subscript × (path.rest.now ≡ rest)
+LeadsBy ty t rest cell (Ok (Some path)) = IsPath ty (t ∷ rest) cell path
 LeadsBy ty t rest cell (Err fault) = Fails fault (first_place t ty (valued (seen_at cell)))
 
 -- ---- changes of a value that is there

@@ -8,7 +8,7 @@ ghost use Rattle.fc_value.specs.Outcomes.{Gives};
 ghost use Rattle.fc_instance.specs.Cells.{Changed, IsShaped, cell_at, merge_cell, put_cell, remove_cell, value_at, valued};
 ghost use Rattle.fc_instance.specs.Components.{Changes, entry_at_subscript};
 ghost use Rattle.fc_instance.specs.Histories.{slot_cell, with_entry};
-ghost use Rattle.fc_instance.specs.Leading.{Leads, at_entry, entry_less, row_merge, through};
+ghost use Rattle.fc_instance.specs.Leading.{IsPath, at_entry, entry_less, row_merge, through};
 
 use crate::{EntryPath, Instance, Slot};
 use fc_base::{Code, Duplicate, OpFault};
@@ -91,7 +91,7 @@ impl Instance {
         match steps {
             [] => self.remove_all(ty, optional, component),
             [first, rest @ ..] => match self.path_at(alloc, ty, component, first, rest)? {
-                Some(path) => self.remove_row(alloc, ty, component, &path, first, steps),
+                Some(path) => self.remove_row(alloc, ty, component, &path, steps),
                 None => self.remove_through(alloc, ty, component, steps),
             },
         }
@@ -271,20 +271,18 @@ impl Instance {
         }
     }
 
-    // That keys of the entries differ without one of them, or with a part of one taken out, is not shown here: where they did not,
-    // the component would change as a whole.
+    // Takes out an entry, or what stands within it. A DEL asks for no keys that differ: where they would not, the component changes as
+    // a whole.
     fn remove_row(
         &mut self,
         alloc: Global,
         ty: &Ty,
         component: usize,
         path: &EntryPath,
-        first: &Step,
         steps: &[Step],
     ) -> Result<(), OpFault>
         requires within { component < length self.old.now }
-        requires path { Leads ty.now first.now (slice_get self.old.now component) path.now.entry.now path.now.limit path.now.subscript }
-        requires steps { steps.now ≡ first.now ∷ path.now.rest.now }
+        requires path { IsPath ty.now steps.now (slice_get self.old.now component) path.now }
         ensures changed { Changed result (through (remove_in steps.now ty.now) (value_at component self.old.now)) ty.now component self.old.now self.new.now }
         ensures held { self.new.held ≡ self.old.held }
     {

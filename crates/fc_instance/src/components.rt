@@ -15,8 +15,8 @@ use fc_types::Ty;
 use fc_value::{Value, read_full};
 use std::alloc::Global;
 
-/// Where a SET of FULLDATA in an array stands: the type of its entries, how many there may be, the subscript of the entry, and the steps
-/// within it.
+/// Where steps lead in an array that is a component: the type of its entries, how many there may be, the subscript of the entry, and the
+/// steps within it.
 #[derive(Debug, Drop)]
 pub struct EntryPath<'a> {
     pub entry: &'a Ty,
