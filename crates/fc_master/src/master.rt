@@ -1,0 +1,24 @@
+// One life of a control element.
+ghost use Rattle.std.specs.Prelude.{◌≡◌, true};
+ghost use Rattle.fc_master.specs.Seats.{elements_of};
+ghost use Rattle.fc_master.specs.Sending.{are_apart};
+
+use crate::job::Job;
+use crate::seat::Seat;
+use fc_asks::Life;
+use fc_base::List;
+
+/// One life of a control element: its elements, and what it drives at them. This profile's own.
+#[derive(Debug, Drop)]
+pub struct Master {
+    pub(crate) life: Life,
+    // What it keeps of each element, in their order.
+    pub(crate) seats: List<Seat>,
+    // In order of their begin or discovery.
+    pub(crate) jobs: List<Job>,
+    // How many transactions it has begun.
+    pub(crate) begun: u32,
+    // The greatest epoch above its own that an answer has held.
+    pub(crate) deposed: Option<u32>,
+    ghost apart: { are_apart (elements_of seats) ≡ true },
+}
