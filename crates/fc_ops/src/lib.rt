@@ -1,13 +1,17 @@
-//! What a query is answered with: the contents that its response has room for, and the response with them in its leaves.
+//! What a query is answered with: the contents of its leaves, those of them that its response has room for, and the response with them.
 #![tactic(auto)]
 
+mod asking;
 mod choose;
 mod filling;
 mod offers;
+mod questions;
 mod selects;
 
+pub use asking::{Prop, query};
 pub use choose::{answer_paths, choose_path};
 pub use fc_path::fits_results;
+pub use fc_value::Live;
 pub use filling::fill;
 pub use offers::{Content, Offers, content_size};
 pub use selects::{answer_query, answer_selects};

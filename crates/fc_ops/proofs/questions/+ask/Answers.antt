@@ -1,0 +1,17 @@
+use Rattle.std.proofs.Common.{◌≡◌, ◌++◌, OnOk, map, sym, ap, ◌∙◌, subst}
+use Rattle.std.specs.List.{flat_map}
+use Rattle.fc_path.specs.Leaves.{body_leaves, path_leaves}
+use Rattle.fc_ops.specs.Asking.{question, steps_along}
+use Rattle.fc_ops.proofs.Asks.{nested_asked}
+use Rattle.fc_ops.proofs.questions.+ask.Goals as goal
+
+pub push_body-returns-in-Nested : goal.push_body-returns-in-Nested
+push_body-returns-in-Nested t c =
+    let o = c.args.origin in
+    let steps = steps_along c.args.segments.items in
+    let all : flat_map (λ p. map question (path_leaves o.kind o.class o.instance p (steps_along c.deref.result.now))) c.as_slice.result.now ≡ map question (body_leaves o.kind o.class o.instance c.args.body.now steps) =
+    ap (λ l. flat_map (λ p. map question (path_leaves o.kind o.class o.instance p (steps_along l))) c.as_slice.result.now) c.deref.ensures.value
+    ∙ ap (flat_map (λ p. map question (path_leaves o.kind o.class o.instance p steps))) c.as_slice.ensures
+    ∙ sym (nested_asked o.kind o.class o.instance c.in-Nested.paths steps)
+    ∙ ap (λ b. map question (body_leaves o.kind o.class o.instance b steps)) (sym c.in-Nested.is) in
+    subst (λ l. OnOk c.push_paths.result (c.push_paths.new.questions.items ≡ c.args.questions.now.items ++ l)) all c.push_paths.ensures
