@@ -3,7 +3,7 @@ use Rattle.std.proofs.Common.{◌≡◌, ℕ, suc, ◌+◌, List, [], ◌∷◌,
 use Rattle.std.proofs.lemmas.List.{length-map}
 use Rattle.std.specs.List.{flat_map}
 use Rattle.fc_path.proofs.Flattening.{nested_leaves}
-use Rattle.fc_path.specs.Leaves.{Given, leaf, own_steps, body_leaves, path_leaves, oper_leaves}
+use Rattle.fc_path.specs.Leaves.{Given, leaf, own_steps, body_leaves, path_leaves, oper_leaves, select_leaves}
 use Rattle.fc_path.specs.declared.oper.Oper.{Oper}
 use Rattle.fc_path.specs.declared.oper.Oper.TheVariants as oper
 use Rattle.fc_path.specs.declared.oper.OperKind.{OperKind}
@@ -32,7 +32,7 @@ AllCount [] = Unit {0}
 AllCount (p ∷ ps) = PathCounts p × AllCount ps
 
 -- one layer
-pub path_leaves_is : (k : OperKind) (c i : ℕ) (p : PathData) → path_leaves k c i p ≡ (λ steps. body_leaves k c i p.body (steps ++ own_steps p.ids p.key))
+path_leaves_is : (k : OperKind) (c i : ℕ) (p : PathData) → path_leaves k c i p ≡ (λ steps. body_leaves k c i p.body (steps ++ own_steps p.ids p.key))
 path_leaves_is k c i p = search (rules, the_lemmas)
 
 path_count_is : (p : PathData) → leaves_in p ≡ leaves_of p.body
@@ -53,16 +53,16 @@ sparse_count ilvs = search (rules, the_lemmas)
 outcome_count : (code : ℕ) → leaves_of (v.Outcome code) ≡ 1
 outcome_count code = search (rules, the_lemmas)
 
-pub nothing_leaf : (k : OperKind) (c i : ℕ) → body_leaves k c i v.Nothing ≡ (λ steps. leaf k c i steps v.Nothing)
+nothing_leaf : (k : OperKind) (c i : ℕ) → body_leaves k c i v.Nothing ≡ (λ steps. leaf k c i steps v.Nothing)
 nothing_leaf k c i = search (rules, the_lemmas)
 
-pub full_leaf : (k : OperKind) (c i : ℕ) (x : List ℕ) → body_leaves k c i (v.Full x) ≡ (λ steps. leaf k c i steps (v.Full x))
+full_leaf : (k : OperKind) (c i : ℕ) (x : List ℕ) → body_leaves k c i (v.Full x) ≡ (λ steps. leaf k c i steps (v.Full x))
 full_leaf k c i x = search (rules, the_lemmas)
 
-pub sparse_leaf : (k : OperKind) (c i : ℕ) (ilvs : List Ilv) → body_leaves k c i (v.Sparse ilvs) ≡ (λ steps. leaf k c i steps (v.Sparse ilvs))
+sparse_leaf : (k : OperKind) (c i : ℕ) (ilvs : List Ilv) → body_leaves k c i (v.Sparse ilvs) ≡ (λ steps. leaf k c i steps (v.Sparse ilvs))
 sparse_leaf k c i ilvs = search (rules, the_lemmas)
 
-pub outcome_leaf : (k : OperKind) (c i code : ℕ) → body_leaves k c i (v.Outcome code) ≡ (λ steps. leaf k c i steps (v.Outcome code))
+outcome_leaf : (k : OperKind) (c i code : ℕ) → body_leaves k c i (v.Outcome code) ≡ (λ steps. leaf k c i steps (v.Outcome code))
 outcome_leaf k c i code = search (rules, the_lemmas)
 
 leaf_counts : (b : Body) → leaves_of b ≡ 1 → ((k : OperKind) (c i : ℕ) → body_leaves k c i b ≡ (λ steps. leaf k c i steps b)) → BodyCounts b
@@ -108,23 +108,20 @@ all_count [] = tt
 all_count (p ∷ ps) = (every_counts p, all_count ps)
 
 -- operations and selects
-abbrev oper_asked : ℕ → ℕ → Oper → List Asked
-oper_asked c i o = map question (oper_leaves c i o)
-
-oper_counts : (c i : ℕ) (o : Oper) → length (oper_asked c i o) ≡ leaves_under o
-oper_counts c i (oper.Paths k ps) = length-map (flat_map (λ p. path_leaves k c i p []) ps) question ∙ all_leaves ps (all_count ps) k c i []
+oper_counts : (c i : ℕ) (o : Oper) → length (oper_leaves c i o) ≡ leaves_under o
+oper_counts c i (oper.Paths k ps) = all_leaves ps (all_count ps) k c i []
 oper_counts c i oper.Commit = refl
 oper_counts c i oper.Trcomp = refl
 oper_counts c i (oper.CommitResponse code) = refl
 
 -- the members of lists, one after the other
-flat_counts : {A : Type 0} (f : A → List Asked) (n : A → ℕ) → ((x : A) → length (f x) ≡ n x) → (xs : List A) → length (flat_map f xs) ≡ counted (map n xs)
+flat_counts : {A B : Type 0} (f : A → List B) (n : A → ℕ) → ((x : A) → length (f x) ≡ n x) → (xs : List A) → length (flat_map f xs) ≡ counted (map n xs)
 flat_counts f n is [] = refl
 flat_counts f n is (x ∷ xs) =
     length-append (f x) (flat_map f xs) ∙ ap (λ m. m + length (flat_map f xs)) (is x) ∙ ap (λ m. n x + m) (flat_counts f n is xs)
 
-select_counts : (s : Select) → length (flat_map (oper_asked s.class s.instance) s.opers) ≡ leaves_in_select s
-select_counts s = flat_counts (oper_asked s.class s.instance) leaves_under (oper_counts s.class s.instance) s.opers
+select_counts : (s : Select) → length (map question (select_leaves s)) ≡ leaves_in_select s
+select_counts s = length-map (select_leaves s) question ∙ flat_counts (oper_leaves s.class s.instance) leaves_under (oper_counts s.class s.instance) s.opers
 
 contents_count : (told : Told) (s : Stored) (props : List Prop) (qs : List Asked) → length (contents_of told s props qs) ≡ length qs
 contents_count told s props [] = refl
@@ -132,4 +129,4 @@ contents_count told s props (q ∷ qs) = ap (λ n. suc n) (contents_count told s
 
 pub query_counts : (told : Told) (s : Stored) (props : List Prop) (selects : List Select) → length (contents_of told s props (questions selects)) ≡ leaves_in_selects selects
 query_counts told s props selects =
-    contents_count told s props (questions selects) ∙ flat_counts (λ (s : Select). flat_map (oper_asked s.class s.instance) s.opers) leaves_in_select select_counts selects
+    contents_count told s props (questions selects) ∙ flat_counts (λ s. map question (select_leaves s)) leaves_in_select select_counts selects

@@ -3,7 +3,7 @@
 use Rattle.std.specs.Prelude.{ℕ, ◌==◌, ◌&&◌, Bool, true, false, if◌then◌else◌, List, [], ◌∷◌, map, slice_get, Option, Some, None, Result, Ok, Err}
 use Rattle.std.specs.List.{flat_map}
 use Rattle.fc_base.specs.Answers.{◌>>=◌}
-use Rattle.fc_path.specs.Leaves.{oper_leaves, select_leaves}
+use Rattle.fc_path.specs.Leaves.{select_leaves}
 use Rattle.fc_path.specs.declared.oper.Leaf.{Leaf}
 use Rattle.fc_path.specs.declared.oper.OperKind.{OperKind}
 use Rattle.fc_path.specs.declared.oper.OperKind.TheVariants as kinds
@@ -36,7 +36,7 @@ question l = (l.kind, l.spot)
 
 -- what the leaves of selects ask for, in reading order
 abbrev pub questions : List Select → List Asked
-questions selects = flat_map (λ (s : Select). flat_map (λ o. map question (oper_leaves s.class s.instance o)) s.opers) selects
+questions selects = flat_map (λ s. map question (select_leaves s)) selects
 
 -- the steps of PATH-DATA that stand in each other
 abbrev pub steps_along : List (List Step) → List Step

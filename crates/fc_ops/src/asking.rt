@@ -138,12 +138,7 @@ fn read_in_full<L: Live>(
 }
 
 // What a GET leaf holds.
-fn value_of<L: Live>(
-    alloc: Global,
-    store: &Store,
-    live: &L,
-    spot: &Spot,
-) -> Result<Content, Memory>
+fn value_of<L: Live>(alloc: Global, store: &Store, live: &L, spot: &Spot) -> Result<Content, Memory>
     ensures { IfOk result (λ content. content ≡ value_content (in_full (seen_now (L.told live.now) spot.now store.now))) }
 {
     match read_in_full(alloc, store, live, spot) {

@@ -2,7 +2,7 @@
 // leaves lies in memory once.
 ghost use Rattle.std.specs.Prelude.{◌≡◌, ◌++◌, ◌∷◌, [], map, IfOk, OnOk};
 ghost use Rattle.std.specs.List.{flat_map};
-ghost use Rattle.fc_path.specs.Leaves.{own_steps, path_leaves, body_leaves, oper_leaves};
+ghost use Rattle.fc_path.specs.Leaves.{own_steps, path_leaves, body_leaves, oper_leaves, select_leaves};
 ghost use Rattle.fc_path.specs.declared.oper.Step.TheVariants.{Id};
 ghost use Rattle.fc_ops.specs.Asking as spec;
 ghost use Rattle.fc_ops.specs.Asking.{question, steps_along};
@@ -232,18 +232,24 @@ fn push_opers<'a>(
     Ok(())
 }
 
+fn push_select<'a>(questions: &mut Vec<Question<'a>>, select: &'a Select) -> Result<(), Memory>
+    ensures { OnOk result (questions.new.items ≡ questions.old.items ++ map question (select_leaves select.now)) }
+{
+    push_opers(
+        questions,
+        select.class,
+        select.instance,
+        select.opers.as_slice(),
+    )
+}
+
 // What the leaves of selects ask for.
 pub fn questions_of<'a>(alloc: Global, selects: &'a [Select]) -> Result<Vec<Question<'a>>, Memory>
     ensures { IfOk result (λ questions. questions.items ≡ spec.questions selects.now) }
 {
     let mut questions = Vec::new(alloc);
     for select in selects {
-        push_opers(
-            &mut questions,
-            select.class,
-            select.instance,
-            select.opers.as_slice(),
-        )?;
+        push_select(&mut questions, select)?;
     }
     Ok(questions)
 }
