@@ -12,7 +12,7 @@ use Rattle.fc_path.specs.declared.oper.Step.{Step}
 use Rattle.fc_path.specs.declared.path.PathData.{PathData, roll-PathData}
 use Rattle.fc_path.specs.declared.path.Body.{Body, roll-Body, map-Body, the_lemmas}
 use Rattle.fc_path.specs.declared.path.Body.TheOpen.{Body-F, PathData-F}
-use Rattle.fc_path.specs.declared.path.Body.TheFolds.{ind-Body, ind-PathData}
+use Rattle.fc_path.specs.declared.path.Body.TheFolds.{ind-PathData}
 use Rattle.fc_path.specs.declared.path.Body.TheVariants as v
 use Rattle.fc_store.specs.Stores.{Stored}
 use Rattle.fc_wire.specs.declared.ilvs.Ilv.{Ilv}
