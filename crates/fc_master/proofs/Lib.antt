@@ -7,3 +7,4 @@ pub mod Laws
 pub mod Replying
 pub mod Finishing
 pub mod Deposing
+pub mod Asking

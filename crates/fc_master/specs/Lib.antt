@@ -4,3 +4,4 @@ pub mod JobViews
 pub mod Sending
 pub mod Effects
 pub mod Masters
+pub mod Answers

@@ -2,6 +2,7 @@
 //! transactions to their end at all of them, and recovers those that it finds.
 #![tactic(auto)]
 
+mod answers;
 mod deciding;
 mod effects;
 mod job;

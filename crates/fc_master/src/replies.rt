@@ -4,9 +4,9 @@ ghost use Rattle.fc_master.specs.Effects.{carried};
 ghost use Rattle.fc_master.specs.JobViews.{jobs_of};
 ghost use Rattle.std.specs.Option.{option_copied};
 ghost use Rattle.fc_protocol.specs.Messages.{stamp, Reply};
-ghost use Rattle.fc_protocol.specs.MasterMachine.{Master as Core, decide_all, depose, heard, is_lower as is_lower_at, matches as matches_it, new_peer};
+ghost use Rattle.fc_protocol.specs.MasterMachine.{decide_all, heard, matches as matches_it, new_peer};
 ghost use Rattle.fc_master.specs.declared.seat.Seat.{Seat as Kept};
-ghost use Rattle.fc_master.specs.Seats.{seat_dropped, peer_at, peer_of, elements_of, waiting_of};
+ghost use Rattle.fc_master.specs.Seats.{peer_at, peer_of, elements_of, waiting_of};
 ghost use Rattle.fc_asks.specs.Bodies.{body_of};
 ghost use Rattle.fc_master.specs.Sending.{are_apart, core_by};
 
@@ -15,7 +15,6 @@ use crate::job::Job;
 use crate::seat::{Seat, Waits};
 use fc_asks::Life;
 use fc_base::{Code, Duplicate, Epoch, FeId, List, Memory};
-use std::alloc::Global;
 
 // The place of an element.
 pub fn place_of(element: FeId, seats: &[Seat]) -> Option<usize>
@@ -44,8 +43,8 @@ fn is_response(waits: &Waits, epoch: Epoch, corr: u64, is_query: bool) -> bool
     is_same && is_kind
 }
 
-// The message that waits at an element, where a response with this correlator is that to it.
-fn answered<'a>(seat: &'a Seat, epoch: Epoch, corr: u64, is_query: bool) -> Option<&'a Waits>
+/// The message that waits at an element, where a response with this correlator is that to it.
+pub fn answered<'a>(seat: &'a Seat, epoch: Epoch, corr: u64, is_query: bool) -> Option<&'a Waits>
     ensures some { IfSome result (λ w. ((peer_of epoch seat.now).waits ≡ Some (waiting_of epoch w.now)) × (matches_it (stamp corr) is_query (peer_of epoch seat.now).waits ≡ true)) }
     ensures none { IfNone result (matches_it (stamp corr) is_query (peer_of epoch seat.now).waits ≡ false) }
 {
@@ -103,51 +102,4 @@ pub fn after_reply(
     let jobs = carry_all(life.alloc, life.epoch, jobs, element, effect)?;
     next.set(at, seat.after_code(&waits.asks, code));
     Ok(Next { seats: next, jobs })
-}
-
-/// What becomes of the elements and jobs, and of the master itself.
-#[derive(Debug, Drop)]
-pub struct Heard {
-    pub seats: List<Seat>,
-    pub jobs: List<Job>,
-    pub deposed: Option<u32>,
-}
-
-// Whether an epoch that is not greater loses the element.
-fn is_lower(seat: &Seat, epoch: Epoch, told: u32) -> bool
-    ensures { (m : Core) → m.epoch ≡ epoch → m.at seat.now.element ≡ peer_of epoch seat.now → result ≡ is_lower_at m seat.now.element told }
-{
-    told < epoch.get() || (seat.doubt && !seat.claimed)
-}
-
-// Copies of the seats, at which nothing waits.
-fn all_dropped(alloc: Global, seats: &[Seat]) -> Result<List<Seat>, Memory>
-    ensures { IfOk result (λ others. others ≡ map seat_dropped seats.now) }
-{
-    let mut others = List::new(alloc);
-    for seat in seats {
-        others.push(seat.without_waits())?;
-    }
-    Ok(others)
-}
-
-// An answer has held a greater epoch: all that waits is dropped.
-fn after_greater(
-    life: &Life,
-    seats: &List<Seat>,
-    jobs: &[Job],
-    element: FeId,
-    deposed: Option<u32>,
-    told: u32,
-) -> Result<Heard, Memory>
-    ensures elements { IfOk result (λ n. elements_of n.seats ≡ elements_of seats.now) }
-    ensures core { IfOk result (λ n. (begun : ℕ) → core_by life.now.epoch n.seats n.jobs begun n.deposed ≡ decide_all (depose (core_by life.now.epoch seats.now jobs.now begun deposed) told)) }
-{
-    let seats = all_dropped(life.alloc, seats.as_slice())?;
-    let jobs = carry_all(life.alloc, life.epoch, jobs, element, None)?;
-    Ok(Heard {
-        seats,
-        jobs,
-        deposed: Some(deposed.unwrap_or(0).max(told)),
-    })
 }

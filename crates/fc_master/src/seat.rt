@@ -1,6 +1,6 @@
 // What a master keeps of an element.
 ghost use Rattle.std.specs.Prelude.{◌≡◌, ℕ, IfOk};
-ghost use Rattle.fc_protocol.specs.MasterMachine.{after_code as after_code_to};
+ghost use Rattle.fc_protocol.specs.MasterMachine.{after_ask as after_ask_of, after_code as after_code_to, unmatched as unmatched_of};
 ghost use Rattle.fc_asks.specs.Bodies.{body_of};
 ghost use Rattle.fc_master.specs.Seats.{peer_of, seat_dropped};
 
@@ -85,6 +85,44 @@ impl Seat {
             claimed: self.claimed,
             answered: self.answered,
             doubt: self.doubt,
+            lost: self.lost,
+            owes: self.owes,
+            waits: None,
+            last: self.last,
+            queries: self.queries,
+        }
+    }
+
+    /// The seat of an element that is lost.
+    pub fn unmatched(&self) -> Seat
+        ensures element { result.element ≡ self.now.element }
+        ensures peer { (e : ℕ) → peer_of e result ≡ unmatched_of (peer_of e self.now) }
+    {
+        Seat {
+            element: self.element,
+            met: self.met,
+            claimed: self.claimed,
+            answered: self.answered,
+            doubt: self.doubt,
+            lost: true,
+            owes: self.owes,
+            waits: None,
+            last: self.last,
+            queries: self.queries,
+        }
+    }
+
+    /// The seat of an element that has answered the ask.
+    pub fn after_ask(&self) -> Seat
+        ensures element { result.element ≡ self.now.element }
+        ensures peer { (e : ℕ) → peer_of e result ≡ after_ask_of (peer_of e self.now) }
+    {
+        Seat {
+            element: self.element,
+            met: self.met,
+            claimed: self.claimed,
+            answered: true,
+            doubt: false,
             lost: self.lost,
             owes: self.owes,
             waits: None,

@@ -3,9 +3,11 @@ ghost use Rattle.std.specs.Prelude.{◌≡◌, ℕ, IfOk, OnOk, OnErr};
 ghost use Rattle.fc_protocol.specs.Messages.{stamp, Reply};
 ghost use Rattle.fc_protocol.specs.MasterMachine.{finish, heard};
 ghost use Rattle.fc_asks.specs.Codes.{response_code};
+ghost use Rattle.fc_master.specs.Answers.{answered};
 ghost use Rattle.fc_master.specs.Masters.{core_of};
 ghost use Rattle.fc_master.specs.Sending.{spelled};
 
+use crate::answers::{Heard, after_answer};
 use crate::master::Master;
 use crate::replies::{Next, after_reply};
 use crate::sending::{CeOut, send_due};
@@ -39,6 +41,39 @@ impl Master {
         let outs = send_due(&self.life, &mut seats, jobs.as_slice(), self.deposed)?;
         self.seats = seats;
         self.jobs = jobs;
+        Ok(outs)
+    }
+
+    // An answer to a Query came from an element.
+    fn queried(
+        &mut self,
+        element: FeId,
+        corr: u64,
+        selects: &[Select],
+    ) -> Result<List<CeOut>, Memory>
+        ensures core { OnOk result ((k : ℕ) → core_of self.new ≡ (finish k (answered (core_of self.old) element corr selects.now)).master) }
+        ensures outs { IfOk result (λ outs. (k : ℕ) → outs ≡ spelled self.old.life (finish k (answered (core_of self.old) element corr selects.now)).says) }
+        ensures life { self.new.life ≡ self.old.life }
+        ensures err { OnErr result (self.new ≡ self.old) }
+    {
+        let heard = after_answer(
+            &self.life,
+            &self.seats,
+            self.jobs.as_slice(),
+            self.deposed,
+            element,
+            corr,
+            selects,
+        )?;
+        let Heard {
+            mut seats,
+            jobs,
+            deposed,
+        } = heard;
+        let outs = send_due(&self.life, &mut seats, jobs.as_slice(), deposed)?;
+        self.seats = seats;
+        self.jobs = jobs;
+        self.deposed = deposed;
         Ok(outs)
     }
 }
