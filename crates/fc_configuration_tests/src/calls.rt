@@ -37,10 +37,10 @@ pub(crate) fn spot(alloc: Global, class: u32, ids: &[u32]) -> Result<Spot, Memor
 }
 
 // The code of an answer, and none where it was done.
-pub(crate) fn told(answer: Result<(), OpFault>) -> Result<Option<Code>, Memory> {
+pub(crate) fn told(answer: &Result<(), OpFault>) -> Result<Option<Code>, Memory> {
     match answer {
         Ok(()) => Ok(None),
-        Err(OpFault::Refused(code)) => Ok(Some(code)),
+        Err(OpFault::Refused(code)) => Ok(Some(*code)),
         Err(OpFault::Memory) => Err(Memory),
     }
 }
@@ -52,7 +52,7 @@ pub(crate) fn put(
     bytes: &[u8],
 ) -> Result<Option<Code>, Memory> {
     let spot = spot(alloc, CLASS, ids)?;
-    told(store.put(&spot, bytes))
+    told(&store.put(&spot, bytes))
 }
 
 // A SET of SPARSEDATA of one field or entry.
@@ -65,7 +65,7 @@ pub(crate) fn merge(
 ) -> Result<Option<Code>, Memory> {
     let spot = spot(alloc, CLASS, ids)?;
     let value = Octets::from_slice(alloc, bytes)?;
-    told(store.merge(&spot, &[Ilv { ident, value }]))
+    told(&store.merge(&spot, &[Ilv { ident, value }]))
 }
 
 pub(crate) fn remove(
@@ -74,7 +74,7 @@ pub(crate) fn remove(
     ids: &[u32],
 ) -> Result<Option<Code>, Memory> {
     let spot = spot(alloc, CLASS, ids)?;
-    told(store.remove(&spot))
+    told(&store.remove(&spot))
 }
 
 // What stands at a spot, as it is written.

@@ -58,7 +58,7 @@ fn spot(alloc: Global, instance: u32) -> Result<Spot, Memory> {
 fn set_all(alloc: Global, store: &mut Store) -> Result<(), Memory> {
     for instance in 1..=INSTANCES {
         let spot = spot(alloc, instance)?;
-        told(store.put(&spot, &[1]))?;
+        told(&store.put(&spot, &[1]))?;
     }
     Ok(())
 }

@@ -38,7 +38,7 @@ fn codes(
     let spot = spot(alloc, class, &[id])?;
     let at = refused(&store.at(&spot));
     let look = refused(&store.look(&spot));
-    let put = told(store.put(&spot, &[0, 0, 0, 1]))?;
+    let put = told(&store.put(&spot, &[0, 0, 0, 1]))?;
     Ok([at, look, put])
 }
 

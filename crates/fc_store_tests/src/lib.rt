@@ -13,8 +13,6 @@ mod keys;
 #[cfg(test)]
 mod spots;
 #[cfg(test)]
-mod store;
-#[cfg(test)]
 mod trees;
 #[cfg(test)]
 mod types;
