@@ -1,0 +1,4 @@
+pub mod Elsewhere
+pub mod Fitting
+pub mod Places
+pub mod Settling
