@@ -1,5 +1,5 @@
 -- What a change at one instance leaves at another.
-use Rattle.std.proofs.Common.{◌≡◌, ℕ, List, slice_get, refl, sym, ap, ◌∙◌, Option, Some, None, Result, Ok, Err}
+use Rattle.std.proofs.Common.{◌≡◌, ℕ, slice_get, refl, sym, ap, ◌∙◌, Option, Some, None, Result, Ok, Err}
 use Rattle.fc_base.specs.Answers.{◌>>=◌}
 use Rattle.fc_path.specs.declared.oper.Spot.{Spot}
 use Rattle.fc_types.specs.Components.{ComponentDecl}

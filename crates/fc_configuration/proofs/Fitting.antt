@@ -1,5 +1,5 @@
 -- The values of a store fit, whatever is done to it.
-use Rattle.std.proofs.Common.{◌≡◌, ℕ, ℤ, zero, suc, ◌-◌, Bool, true, false, List, [], ◌∷◌, length, map, slice_get, slice_set, refl, sym, ap, subst, ◌∙◌, Option, Some, None, Result, Ok, Err, if◌then◌else◌}
+use Rattle.std.proofs.Common.{◌≡◌, ℕ, ℤ, suc, ◌-◌, Bool, true, false, List, [], ◌∷◌, length, map, slice_get, refl, sym, ap, subst, ◌∙◌, Option, Some, None, Result, Ok, Err, if◌then◌else◌}
 use Rattle.std.specs.List.{AllByRecursion}
 use Rattle.fc_base.specs.Answers.{◌>>=◌}
 use Rattle.fc_path.specs.declared.oper.Spot.{Spot}
@@ -12,7 +12,6 @@ use Rattle.fc_types.specs.Components.{ComponentDecl}
 use Rattle.fc_types.specs.Libraries.{IsLibrary}
 use Rattle.fc_types.specs.Sound.{IsSound}
 use Rattle.fc_types.specs.declared.class.Class.{Class}
-use Rattle.fc_types.specs.declared.ty.Ty.{Ty}
 use Rattle.fc_value.specs.Fits.{Fits}
 use Rattle.fc_value.specs.Outcomes.{invalid_parameters}
 use Rattle.fc_value.specs.Reading.{full_in}
@@ -26,11 +25,11 @@ use Rattle.fc_instance.specs.Cells.{merge_cell, put_cell, remove_cell}
 use Rattle.fc_cells.specs.Places.{AreWords, HaveWords}
 use Rattle.fc_cells.proofs.Fitting.{merge_fits, put_fits, read_fits, remove_fits}
 use Rattle.fc_store.specs.Spots.{resolved}
-use Rattle.fc_store.specs.Stores.{Change, Components, Pairwise, Stored, Tree, changed, declared_in, depth_in, further, gone_back, held_at, merge_spot, number_or, opened, opening_number, opening_tree, opens, opens_absent, over_mark, present, put_spot, remove_spot, settled, settled_tree, value_in, value_of, with_component, with_mark, with_value, without_mark}
+use Rattle.fc_store.specs.Stores.{Change, Pairwise, Stored, Tree, changed, declared_in, depth_in, further, gone_back, held_at, merge_spot, number_or, opened, opening_number, opening_tree, opens, opens_absent, over_mark, present, put_spot, remove_spot, settled, settled_tree, value_in, value_of, with_component, with_mark, with_value, without_mark}
 use Rattle.fc_store.specs.declared.spots.Purpose.TheVariants as purpose
-use Rattle.fc_store.proofs.Apart.{Made, made}
+use Rattle.fc_store.proofs.Apart.{made}
 use Rattle.fc_store.proofs.Doing.{err_ok, leads, ok_is}
-use Rattle.fc_store.proofs.Lists.{all_index, all_more, all_take, at_is, none_some, pair_each, pair_from, pair_get, pair_set, some_is}
+use Rattle.fc_store.proofs.Lists.{all_index, all_more, all_take, at_is, pair_each, pair_from, pair_get, pair_set, some_is}
 use Rattle.fc_configuration.specs.Fitting.{AreFitting, DoFit, FitsComponent, HasOpenings, IsFitting}
 use Rattle.fc_configuration.proofs.Places.{sound_in}
 

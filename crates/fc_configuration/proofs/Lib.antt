@@ -1,4 +1,7 @@
+pub mod Changing
 pub mod Elsewhere
 pub mod Fitting
+pub mod Here
+pub mod Mapped
 pub mod Places
 pub mod Settling

@@ -1,5 +1,5 @@
 -- Where a change is made: the instance, its tree, the component and its value.
-use Rattle.std.proofs.Common.{◌≡◌, ◌==◌, ℕ, zero, suc, Bool, true, false, cond, List, [], ◌∷◌, find, slice_get, refl, sym, ap, subst, ◌∙◌, Option, Some, None}
+use Rattle.std.proofs.Common.{◌≡◌, ◌==◌, ℕ, zero, suc, Bool, true, false, cond, List, [], ◌∷◌, find, slice_get, refl, subst, Option, Some, None}
 use Rattle.std.specs.List.{AllByRecursion}
 use Rattle.fc_types.specs.Components.{ComponentDecl}
 use Rattle.fc_types.specs.Libraries.{IsLibrary}

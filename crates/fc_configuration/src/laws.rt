@@ -1,24 +1,31 @@
 // Laws of a whole configuration.
-ghost use Rattle.std.specs.Prelude.{◌≡◌, ◌∷◌, ◌++◌, [], ℕ, List, true, false, Ok, Err, Some, slice_get};
+ghost use Rattle.std.specs.Prelude.{◌≡◌, ◌∷◌, ◌++◌, [], ℕ, List, true, false, map, Ok, Err, Some, slice_get};
 ghost use Rattle.std.specs.List.{AllByRecursion};
-ghost use Rattle.fc_cells.specs.Places.{AreWords, HaveWords};
+ghost use Rattle.fc_cells.specs.Cells.{Node};
+ghost use Rattle.fc_cells.specs.Places.{AreWords, HaveWords, IsFree, is_named, keys_of};
 ghost use Rattle.fc_path.specs.declared.oper.Spot.{Spot};
-ghost use Rattle.fc_store.specs.Stores.{AreApart, Change, Components, Stored, Tree, changed, gone_back, is_in, merge_spot, opened, over_mark, put_spot, remove_spot, seen, settled, with_mark, without_mark};
+ghost use Rattle.fc_store.specs.Stores.{AreApart, Change, Components, Found, Stored, Tree, changed, gone_back, is_in, merge_spot, opened, over_mark, put_spot, remove_spot, seen, settled, with_mark, without_mark};
 ghost use Rattle.fc_store.specs.declared.spots.Purpose.{Purpose};
-ghost use Rattle.fc_types.specs.Libraries.{IsLibrary};
+ghost use Rattle.fc_store.specs.declared.spots.Purpose.TheVariants as purpose;
+ghost use Rattle.fc_tree.specs.Finding.{not_found};
+ghost use Rattle.fc_types.specs.Libraries.{AreInstances, IsLibrary};
 ghost use Rattle.fc_types.specs.declared.class.Class.{Class};
+ghost use Rattle.fc_types.specs.declared.ty.Ty.{Ty};
+ghost use Rattle.fc_value.specs.Nodes.{are_apart};
 ghost use Rattle.fc_value.specs.SparseForm.{HoldBytes};
+ghost use Rattle.fc_value.specs.declared.value.Value.{Value};
 ghost use Rattle.fc_wire.specs.Bytes.{AreBytes};
 ghost use Rattle.fc_wire.specs.declared.ilvs.Ilv.{Ilv};
 ghost use Rattle.fc_configuration.specs.Fitting.{AreFitting, HasOpenings};
 ghost use Rattle.fc_configuration.specs.Marking.{HasNoMarks, IsBeside, Marking, bare, marks_of_all};
+ghost use Rattle.fc_configuration.specs.Sites.{AreElsewhere, Site, cell_at, spot_by};
 
 /// What is done and what is read at one instance does not depend on what was done at another: what was done stays possible, what was
 /// refused is refused with the same code, and the same is read, or refused.
 pub fn operations_do_not_depend()
     ensures same { (f g : Change) (a b : Spot) (s t u : Stored) → AreApart a b → changed f a s ≡ Ok t → changed g b s ≡ Ok u → (w : Stored) × (changed g b t ≡ Ok w) }
     ensures refused { (f g : Change) (a b : Spot) (s t : Stored) (code : ℕ) → AreApart a b → changed f a s ≡ Ok t → changed g b s ≡ Err code → changed g b t ≡ Err code }
-    ensures read { (f : Change) (purpose : Purpose) (a b : Spot) (s t : Stored) → AreApart a b → changed f a s ≡ Ok t → seen purpose b t ≡ seen purpose b s }
+    ensures read { (f : Change) (p : Purpose) (a b : Spot) (s t : Stored) → AreApart a b → changed f a s ≡ Ok t → seen p b t ≡ seen p b s }
 {}
 
 /// Of an instance, a settled copy has what it held when the first of the marks over it was set, where that mark still stands there, and
@@ -41,4 +48,44 @@ pub fn fits_everywhere()
     ensures unmarked { (mark : List (ℕ × ℕ)) (s : Stored) → AreFitting s → AreFitting (over_mark without_mark mark s) }
     ensures back { (mark : List (ℕ × ℕ)) (s : Stored) → AreFitting s → AreFitting (over_mark gone_back mark s) }
     ensures settled { (marks : List (List (ℕ × ℕ))) (s : Stored) → AreFitting s → AreFitting (settled marks s) }
+{}
+
+/// A change of a component leaves every other component of its instance, and every other instance: each spot there leads to the same as
+/// before, or is refused as before.
+pub fn a_change_stays_in_its_component()
+    ensures { (f : Change) (p : Purpose) (a b : Spot) (s t : Stored) → AreElsewhere a b → changed f a s ≡ Ok t → seen p b t ≡ seen p b s }
+{}
+
+/// A SET of FULLDATA at a place of a component: what is found there is what the bytes are read as; where another place of the component
+/// is neither above nor below it, there is what was there, or as before nothing; above it structs and arrays stay.
+pub fn a_set_changes_one_place()
+    ensures put { (site : Site) (ids bytes : List ℕ) (s t : Stored) → AreFitting s → put_spot (spot_by site ids) bytes s ≡ Ok t → Found bytes (seen purpose.Look (spot_by site ids) t) }
+    ensures other { (p : Purpose) (site : Site) (ids bytes others : List ℕ) (s t : Stored) → AreFitting s → put_spot (spot_by site ids) bytes s ≡ Ok t → are_apart ids others ≡ true → seen p (spot_by site others) t ≡ seen p (spot_by site others) s }
+    ensures above { (site : Site) (front : List ℕ) (id : ℕ) (ids bytes : List ℕ) (s t : Stored) → AreFitting s → put_spot (spot_by site (front ++ id ∷ ids)) bytes s ≡ Ok t → (cell_at s site front ≡ Some Node) × (cell_at t site front ≡ Some Node) }
+{}
+
+/// A merge at a place of a component: at each field or entry that an ILV names, what is found is what its value is read as; at and under
+/// the others, and where another place is neither above nor below, there is what was there, or as before nothing; at the place and above
+/// it structs and arrays stay.
+pub fn a_merge_changes_what_it_names()
+    ensures put { (site : Site) (ids : List ℕ) (ilvs : List Ilv) (s t : Stored) → AreFitting s → merge_spot (spot_by site ids) ilvs s ≡ Ok t → AllByRecursion (λ (ilv : Ilv). Found ilv.value (seen purpose.Look (spot_by site (ids ++ ilv.ident ∷ [])) t)) ilvs }
+    ensures unnamed { (p : Purpose) (site : Site) (ids : List ℕ) (ilvs : List Ilv) (id : ℕ) (others : List ℕ) (s t : Stored) → AreFitting s → merge_spot (spot_by site ids) ilvs s ≡ Ok t → is_named ilvs id ≡ false → seen p (spot_by site (ids ++ id ∷ others)) t ≡ seen p (spot_by site (ids ++ id ∷ others)) s }
+    ensures other { (p : Purpose) (site : Site) (ids : List ℕ) (ilvs : List Ilv) (others : List ℕ) (s t : Stored) → AreFitting s → merge_spot (spot_by site ids) ilvs s ≡ Ok t → are_apart ids others ≡ true → seen p (spot_by site others) t ≡ seen p (spot_by site others) s }
+    ensures above { (site : Site) (front ids : List ℕ) (ilvs : List Ilv) (s t : Stored) → AreFitting s → merge_spot (spot_by site (front ++ ids)) ilvs s ≡ Ok t → (cell_at s site front ≡ Some Node) × (cell_at t site front ≡ Some Node) }
+{}
+
+/// A DEL: nothing is found any more at its spot, whether that led to an entry, with keys or without, or to a component that may be
+/// absent. Of an entry that is taken, no entry of its array has one of the keys; where another place of the component is neither above
+/// nor below it, there is what was there, or as before nothing; above it structs and arrays stay.
+pub fn a_removal_takes_one_entry()
+    ensures gone { (spot : Spot) (s t : Stored) → IsLibrary s.library → AreFitting s → remove_spot spot s ≡ Ok t → seen purpose.Look spot t ≡ Err not_found }
+    ensures free { (site : Site) (front : List ℕ) (id : ℕ) (s t : Stored) (array entry : Ty) (node old : Value) → IsLibrary s.library → AreFitting s → remove_spot (spot_by site (front ++ id ∷ [])) s ≡ Ok t → seen purpose.Look (spot_by site (front ++ id ∷ [])) s ≡ Ok (entry, old) → seen purpose.Look (spot_by site front) t ≡ Ok (array, node) → AllByRecursion (IsFree entry old node) (keys_of array) }
+    ensures other { (p : Purpose) (site : Site) (ids others : List ℕ) (s t : Stored) → IsLibrary s.library → AreFitting s → remove_spot (spot_by site ids) s ≡ Ok t → are_apart ids others ≡ true → seen p (spot_by site others) t ≡ seen p (spot_by site others) s }
+    ensures above { (site : Site) (front : List ℕ) (id : ℕ) (ids : List ℕ) (s t : Stored) → IsLibrary s.library → AreFitting s → remove_spot (spot_by site (front ++ id ∷ ids)) s ≡ Ok t → (cell_at s site front ≡ Some Node) × (cell_at t site front ≡ Some Node) }
+{}
+
+/// The configuration is a map from the places of its components to cells: two stores of the same instances of one library, whose values
+/// fit, hold the same now where they have the same cell at each place.
+pub fn the_configuration_is_a_map()
+    ensures { (s t : Stored) → s.library ≡ t.library → s.instances ≡ t.instances → IsLibrary s.library → AreInstances s.instances → AreFitting s → AreFitting t → ((site : Site) (ids : List ℕ) → cell_at s site ids ≡ cell_at t site ids) → map (λ (u : Tree). u.now) s.trees ≡ map (λ (u : Tree). u.now) t.trees }
 {}
