@@ -157,7 +157,7 @@ remove_freed optional (j ∷ front) id ty array entry (Some u) v node old s h e 
 -- the value before the change fits
 pub fits_before : (f : Change) (a : Spot) (s t : Stored) (m : Made f a s t) → AreFitting s → DoesFit m.d.ty (value_in s m.place)
 fits_before f a s t m h =
-    let p = standing a s m.place m.d h m.leads m.declared in
+    let p = standing purpose.Write a s m.place m.d h m.leads m.declared in
     subst (DoesFit m.d.ty) (sym (value_is a s m.place m.d p)) (fits_so m.d p.value p.fit)
 
 pub sound_here : (f : Change) (a : Spot) (s t : Stored) (m : Made f a s t) → IsLibrary s.library → IsSound m.d.ty

@@ -26,6 +26,7 @@ use Rattle.fc_cells.specs.Places.{AreWords, HaveWords}
 use Rattle.fc_cells.proofs.Fitting.{merge_fits, put_fits, read_fits, remove_fits}
 use Rattle.fc_store.specs.Spots.{resolved}
 use Rattle.fc_store.specs.Stores.{Change, Pairwise, Stored, Tree, changed, declared_in, depth_in, further, gone_back, held_at, merge_spot, number_or, opened, opening_number, opening_tree, opens, opens_absent, over_mark, present, put_spot, remove_spot, settled, settled_tree, value_in, value_of, with_component, with_mark, with_value, without_mark}
+use Rattle.fc_store.specs.declared.spots.Purpose.{Purpose}
 use Rattle.fc_store.specs.declared.spots.Purpose.TheVariants as purpose
 use Rattle.fc_store.proofs.Apart.{made}
 use Rattle.fc_store.proofs.Doing.{err_ok, leads, ok_is}
@@ -98,10 +99,10 @@ pub record Standing (a : Spot) (s : Stored) (place : ℕ × ℕ) (d : ComponentD
   pub has : slice_get tree.now place.1 ≡ Some value
   pub fit : FitsComponent d value
 
-pub standing : (a : Spot) (s : Stored) (place : ℕ × ℕ) (d : ComponentDecl) → AreFitting s → resolved purpose.Write s.library s.instances a.class a.instance a.steps ≡ Ok place
+pub standing : (p : Purpose) (a : Spot) (s : Stored) (place : ℕ × ℕ) (d : ComponentDecl) → AreFitting s → resolved p s.library s.instances a.class a.instance a.steps ≡ Ok place
     → slice_get (declared_in s.library a.class) place.1 ≡ Some d → Standing a s place d
-standing a s place d h e f =
-    let l = leads purpose.Write s.library s.instances a.class a.instance a.steps place e in
+standing p a s place d h e f =
+    let l = leads p s.library s.instances a.class a.instance a.steps place e in
     let t = pair_get (IsFitting s.library) s.instances s.trees place.0 l.0 h l.1 in
     let c : slice_get (declared_in s.library l.0.0) place.1 ≡ Some d = ap (λ class. slice_get (declared_in s.library class) place.1) l.2.0 ∙ f in
     let m = pair_get FitsComponent (declared_in s.library l.0.0) t.0.now place.1 d t.2.0 c in
@@ -123,7 +124,7 @@ with_fits a s place d v h t fit =
 kept : (f : Change) (a : Spot) (s t : Stored) → Keeps f → IsLibrary s.library → AreFitting s → changed f a s ≡ Ok t → AreFitting t
 kept f a s t keeps l h e =
     let m = made f a s t e in
-    let p = standing a s m.place m.d h m.leads m.declared in
+    let p = standing purpose.Write a s m.place m.d h m.leads m.declared in
     let v : FitsComponent m.d (value_in s m.place) = subst (FitsComponent m.d) (sym (value_is a s m.place m.d p)) p.fit in
     subst AreFitting (sym m.is) (with_fits a s m.place m.d m.v h p (keeps m.d (value_in s m.place) m.v (sound_in s.library a.class m.place.1 m.d l m.declared) v m.gives))
 

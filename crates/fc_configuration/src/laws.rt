@@ -2,8 +2,9 @@
 ghost use Rattle.std.specs.Prelude.{◌≡◌, ◌∷◌, ◌++◌, [], ℕ, List, true, false, map, Ok, Err, Some, slice_get};
 ghost use Rattle.std.specs.List.{AllByRecursion};
 ghost use Rattle.fc_cells.specs.Cells.{Node};
-ghost use Rattle.fc_cells.specs.Places.{AreWords, HaveWords, IsFree, is_named, keys_of};
+ghost use Rattle.fc_cells.specs.Places.{AreWords, HaveWords, IsFree, is_named, keys_of, leaves, place};
 ghost use Rattle.fc_path.specs.declared.oper.Spot.{Spot};
+ghost use Rattle.fc_path.specs.declared.oper.Step.{Step};
 ghost use Rattle.fc_store.specs.Stores.{AreApart, Change, Components, Found, Stored, Tree, changed, gone_back, is_in, merge_spot, opened, over_mark, put_spot, remove_spot, seen, settled, with_mark, without_mark};
 ghost use Rattle.fc_store.specs.declared.spots.Purpose.{Purpose};
 ghost use Rattle.fc_store.specs.declared.spots.Purpose.TheVariants as purpose;
@@ -18,7 +19,7 @@ ghost use Rattle.fc_wire.specs.Bytes.{AreBytes};
 ghost use Rattle.fc_wire.specs.declared.ilvs.Ilv.{Ilv};
 ghost use Rattle.fc_configuration.specs.Fitting.{AreFitting, HasOpenings};
 ghost use Rattle.fc_configuration.specs.Marking.{HasNoMarks, IsBeside, Marking, bare, marks_of_all};
-ghost use Rattle.fc_configuration.specs.Sites.{AreElsewhere, Site, cell_at, spot_by};
+ghost use Rattle.fc_configuration.specs.Sites.{AreElsewhere, Site, cell_at, spot_at, spot_by};
 
 /// What is done and what is read at one instance does not depend on what was done at another: what was done stays possible, what was
 /// refused is refused with the same code, and the same is read, or refused.
@@ -57,35 +58,50 @@ pub fn a_change_stays_in_its_component()
 {}
 
 /// A SET of FULLDATA at a place of a component: what is found there is what the bytes are read as; where another place of the component
-/// is neither above nor below it, there is what was there, or as before nothing; above it structs and arrays stay.
+/// is neither above nor below it, there is what was there, or as before nothing; above it structs and arrays stay. A spot that leaves the way
+/// to the place, and of which no key is made of a field in which something is put, finds what it found.
 pub fn a_set_changes_one_place()
     ensures put { (site : Site) (ids bytes : List ℕ) (s t : Stored) → AreFitting s → put_spot (spot_by site ids) bytes s ≡ Ok t → Found bytes (seen purpose.Look (spot_by site ids) t) }
     ensures other { (p : Purpose) (site : Site) (ids bytes others : List ℕ) (s t : Stored) → AreFitting s → put_spot (spot_by site ids) bytes s ≡ Ok t → are_apart ids others ≡ true → seen p (spot_by site others) t ≡ seen p (spot_by site others) s }
     ensures above { (site : Site) (front : List ℕ) (id : ℕ) (ids bytes : List ℕ) (s t : Stored) → AreFitting s → put_spot (spot_by site (front ++ id ∷ ids)) bytes s ≡ Ok t → (cell_at s site front ≡ Some Node) × (cell_at t site front ≡ Some Node) }
+    ensures path { (p : Purpose) (site : Site) (ids bytes : List ℕ) (path : List Step) (others : List ℕ) (s t : Stored) (ty : Ty) (v : Value) (x : Ty × Value) → AreFitting s → put_spot (spot_by site ids) bytes s ≡ Ok t → seen purpose.Look (spot_at site []) s ≡ Ok (ty, v) → place path ty v ≡ Ok others → leaves ids path others ty ≡ true → seen purpose.Look (spot_at site path) s ≡ Ok x → seen p (spot_at site path) t ≡ seen p (spot_at site path) s }
 {}
 
 /// A merge at a place of a component: at each field or entry that an ILV names, what is found is what its value is read as; at and under
 /// the others, and where another place is neither above nor below, there is what was there, or as before nothing; at the place and above
-/// it structs and arrays stay.
+/// it structs and arrays stay. A spot that leaves the way to each place that is named, and of which no key is made of a field in which
+/// something is changed, finds what it found.
 pub fn a_merge_changes_what_it_names()
     ensures put { (site : Site) (ids : List ℕ) (ilvs : List Ilv) (s t : Stored) → AreFitting s → merge_spot (spot_by site ids) ilvs s ≡ Ok t → AllByRecursion (λ (ilv : Ilv). Found ilv.value (seen purpose.Look (spot_by site (ids ++ ilv.ident ∷ [])) t)) ilvs }
     ensures unnamed { (p : Purpose) (site : Site) (ids : List ℕ) (ilvs : List Ilv) (id : ℕ) (others : List ℕ) (s t : Stored) → AreFitting s → merge_spot (spot_by site ids) ilvs s ≡ Ok t → is_named ilvs id ≡ false → seen p (spot_by site (ids ++ id ∷ others)) t ≡ seen p (spot_by site (ids ++ id ∷ others)) s }
     ensures other { (p : Purpose) (site : Site) (ids : List ℕ) (ilvs : List Ilv) (others : List ℕ) (s t : Stored) → AreFitting s → merge_spot (spot_by site ids) ilvs s ≡ Ok t → are_apart ids others ≡ true → seen p (spot_by site others) t ≡ seen p (spot_by site others) s }
     ensures above { (site : Site) (front ids : List ℕ) (ilvs : List Ilv) (s t : Stored) → AreFitting s → merge_spot (spot_by site (front ++ ids)) ilvs s ≡ Ok t → (cell_at s site front ≡ Some Node) × (cell_at t site front ≡ Some Node) }
+    ensures path { (p : Purpose) (site : Site) (ids : List ℕ) (first : Ilv) (more : List Ilv) (path : List Step) (others : List ℕ) (s t : Stored) (ty : Ty) (v : Value) (x : Ty × Value) → AreFitting s → merge_spot (spot_by site ids) (first ∷ more) s ≡ Ok t → seen purpose.Look (spot_at site []) s ≡ Ok (ty, v) → place path ty v ≡ Ok others → AllByRecursion (λ (ilv : Ilv). leaves (ids ++ ilv.ident ∷ []) path others ty ≡ true) (first ∷ more) → seen purpose.Look (spot_at site path) s ≡ Ok x → seen p (spot_at site path) t ≡ seen p (spot_at site path) s }
 {}
 
 /// A DEL: nothing is found any more at its spot, whether that led to an entry, with keys or without, or to a component that may be
 /// absent. Of an entry that is taken, no entry of its array has one of the keys; where another place of the component is neither above
-/// nor below it, there is what was there, or as before nothing; above it structs and arrays stay.
+/// nor below it, there is what was there, or as before nothing; above it structs and arrays stay. Every spot of another place, which does
+/// not lie above or below, finds what it found, with keys or without.
 pub fn a_removal_takes_one_entry()
     ensures gone { (spot : Spot) (s t : Stored) → IsLibrary s.library → AreFitting s → remove_spot spot s ≡ Ok t → seen purpose.Look spot t ≡ Err not_found }
     ensures free { (site : Site) (front : List ℕ) (id : ℕ) (s t : Stored) (array entry : Ty) (node old : Value) → IsLibrary s.library → AreFitting s → remove_spot (spot_by site (front ++ id ∷ [])) s ≡ Ok t → seen purpose.Look (spot_by site (front ++ id ∷ [])) s ≡ Ok (entry, old) → seen purpose.Look (spot_by site front) t ≡ Ok (array, node) → AllByRecursion (IsFree entry old node) (keys_of array) }
     ensures other { (p : Purpose) (site : Site) (ids others : List ℕ) (s t : Stored) → IsLibrary s.library → AreFitting s → remove_spot (spot_by site ids) s ≡ Ok t → are_apart ids others ≡ true → seen p (spot_by site others) t ≡ seen p (spot_by site others) s }
     ensures above { (site : Site) (front : List ℕ) (id : ℕ) (ids : List ℕ) (s t : Stored) → IsLibrary s.library → AreFitting s → remove_spot (spot_by site (front ++ id ∷ ids)) s ≡ Ok t → (cell_at s site front ≡ Some Node) × (cell_at t site front ≡ Some Node) }
+    ensures path { (p : Purpose) (site : Site) (ids : List ℕ) (path : List Step) (others : List ℕ) (s t : Stored) (ty : Ty) (v : Value) (x : Ty × Value) → IsLibrary s.library → AreFitting s → remove_spot (spot_by site ids) s ≡ Ok t → seen purpose.Look (spot_at site []) s ≡ Ok (ty, v) → place path ty v ≡ Ok others → are_apart ids others ≡ true → seen purpose.Look (spot_at site path) s ≡ Ok x → seen p (spot_at site path) t ≡ seen p (spot_at site path) s }
 {}
 
 /// The configuration is a map from the places of its components to cells: two stores of the same instances of one library, whose values
 /// fit, hold the same now where they have the same cell at each place.
 pub fn the_configuration_is_a_map()
     ensures { (s t : Stored) → s.library ≡ t.library → s.instances ≡ t.instances → IsLibrary s.library → AreInstances s.instances → AreFitting s → AreFitting t → ((site : Site) (ids : List ℕ) → cell_at s site ids ≡ cell_at t site ids) → map (λ (u : Tree). u.now) s.trees ≡ map (λ (u : Tree). u.now) t.trees }
+{}
+
+/// A spot, with keys or without, leads to one place of its component at most: what is found, put, merged or removed there is what is
+/// found, put, merged or removed at the spot of IDs to that place, refusals with their codes too.
+pub fn a_spot_leads_to_one_place()
+    ensures found { (p : Purpose) (site : Site) (path : List Step) (ids : List ℕ) (s : Stored) (ty : Ty) (v : Value) → AreFitting s → seen purpose.Look (spot_at site []) s ≡ Ok (ty, v) → place path ty v ≡ Ok ids → seen p (spot_at site path) s ≡ seen p (spot_by site ids) s }
+    ensures put { (site : Site) (path : List Step) (ids bytes : List ℕ) (s : Stored) (ty : Ty) (v : Value) → AreFitting s → seen purpose.Look (spot_at site []) s ≡ Ok (ty, v) → place path ty v ≡ Ok ids → put_spot (spot_at site path) bytes s ≡ put_spot (spot_by site ids) bytes s }
+    ensures merged { (site : Site) (path : List Step) (ids : List ℕ) (ilvs : List Ilv) (s : Stored) (ty : Ty) (v : Value) → AreFitting s → seen purpose.Look (spot_at site []) s ≡ Ok (ty, v) → place path ty v ≡ Ok ids → merge_spot (spot_at site path) ilvs s ≡ merge_spot (spot_by site ids) ilvs s }
+    ensures removed { (site : Site) (path : List Step) (ids : List ℕ) (s : Stored) (ty : Ty) (v : Value) → AreFitting s → seen purpose.Look (spot_at site []) s ≡ Ok (ty, v) → place path ty v ≡ Ok ids → remove_spot (spot_at site path) s ≡ remove_spot (spot_by site ids) s }
 {}

@@ -1,4 +1,5 @@
 use Rattle.fc_configuration.proofs.Changing.{merge_above, merge_is_found, merge_leaves, merge_other}
+use Rattle.fc_configuration.proofs.Keyed.{merge_path}
 use Rattle.fc_configuration.proofs.laws.a_merge_changes_what_it_names.Goals as goal
 
 pub returns-clause-put : goal.returns-clause-put
@@ -12,3 +13,6 @@ returns-clause-other c = merge_other
 
 pub returns-clause-above : goal.returns-clause-above
 returns-clause-above c = merge_above
+
+pub returns-clause-path : goal.returns-clause-path
+returns-clause-path c = merge_path
