@@ -281,6 +281,15 @@ fn plain_selects(life: &Life, element: FeId) -> Result<List<Select>, Memory>
     Ok(selects)
 }
 
+// The selects of a claim: the epoch of the life.
+fn claim_selects(life: &Life) -> Result<List<Select>, Memory>
+    ensures { IfOk result (λ selects. selects ≡ spec.on_mastership (spec.sets components.epoch (u32_bytes life.now.epoch) ∷ []) ∷ []) }
+{
+    let mut bytes = Vec::new(life.alloc);
+    put(&mut bytes, life.epoch.get())?;
+    set_selects(life.alloc, EPOCH, Octets::from_vec(bytes))
+}
+
 /// The message of a life to an element that asks for this (RFC 5810, sections 7.6.1, 7.7.1 and 4.3.1.2.2): its correlator is the epoch
 /// in the high 32 bits and this count in the low ones, and an answer is always wanted. A change that the life does not have is sent as
 /// none. Refused only for want of memory.
@@ -289,77 +298,47 @@ pub fn request(life: &Life, element: FeId, count: u32, asks: &Asks) -> Result<Me
 {
     match asks {
         Asks::Claim => {
-            let mut bytes = Vec::new(life.alloc);
-            put(&mut bytes, life.epoch.get())?;
-            let selects = set_selects(life.alloc, EPOCH, Octets::from_vec(bytes))?;
-            Ok(config(
-                life,
-                element,
-                count,
-                flags(ALL_OR_NONE, false, START),
-                selects,
-            ))
+            let flags = flags(ALL_OR_NONE, false, START);
+            let selects = claim_selects(life)?;
+            Ok(config(life, element, count, flags, selects))
         }
         Asks::Ask => ask(life, element, count),
         Asks::Record(txn) => record_ask(life, element, count, *txn),
         Asks::Sot(txn, participants, scope) => {
             let bytes = opening(life.alloc, *txn, participants.as_slice(), scope.as_slice())?;
+            let flags = flags(ALL_OR_NONE, true, START);
             let selects = set_selects(life.alloc, OPENING, bytes)?;
-            Ok(config(
-                life,
-                element,
-                count,
-                flags(ALL_OR_NONE, true, START),
-                selects,
-            ))
+            Ok(config(life, element, count, flags, selects))
         }
         Asks::Mot(txn, number) => {
+            let flags = flags(ALL_OR_NONE, true, MIDDLE);
             let selects = change_selects(life, *txn, element, *number)?;
-            Ok(config(
-                life,
-                element,
-                count,
-                flags(ALL_OR_NONE, true, MIDDLE),
-                selects,
-            ))
+            Ok(config(life, element, count, flags, selects))
         }
         Asks::Eot(txn) => {
+            let flags = flags(ALL_OR_NONE, true, END);
             let selects = ended_selects(life.alloc, *txn, Oper::Commit)?;
-            Ok(config(life, element, count, flags(ALL_OR_NONE, true, END), selects))
+            Ok(config(life, element, count, flags, selects))
         }
         Asks::Trcomp(txn) => {
+            let flags = flags(ALL_OR_NONE, true, END);
             let selects = ended_selects(life.alloc, *txn, Oper::Trcomp)?;
-            Ok(config(life, element, count, flags(ALL_OR_NONE, true, END), selects))
+            Ok(config(life, element, count, flags, selects))
         }
         Asks::Abt(txn) => {
+            let flags = flags(ALL_OR_NONE, true, ABORT);
             let selects = set_selects(life.alloc, SUBJECT, subject(life.alloc, *txn)?)?;
-            Ok(config(
-                life,
-                element,
-                count,
-                flags(ALL_OR_NONE, true, ABORT),
-                selects,
-            ))
+            Ok(config(life, element, count, flags, selects))
         }
         Asks::Floor(floor) => {
+            let flags = flags(ALL_OR_NONE, false, START);
             let selects = set_selects(life.alloc, FLOOR, subject(life.alloc, *floor)?)?;
-            Ok(config(
-                life,
-                element,
-                count,
-                flags(ALL_OR_NONE, false, START),
-                selects,
-            ))
+            Ok(config(life, element, count, flags, selects))
         }
         Asks::Plain => {
+            let flags = flags(ALL_OR_NONE, false, START);
             let selects = plain_selects(life, element)?;
-            Ok(config(
-                life,
-                element,
-                count,
-                flags(ALL_OR_NONE, false, START),
-                selects,
-            ))
+            Ok(config(life, element, count, flags, selects))
         }
     }
 }

@@ -97,8 +97,8 @@ pub fn the_configuration_is_a_map()
     ensures { (s t : Stored) → s.library ≡ t.library → s.instances ≡ t.instances → IsLibrary s.library → AreInstances s.instances → AreFitting s → AreFitting t → ((site : Site) (ids : List ℕ) → cell_at s site ids ≡ cell_at t site ids) → map (λ (u : Tree). u.now) s.trees ≡ map (λ (u : Tree). u.now) t.trees }
 {}
 
-/// A spot, with keys or without, leads to one place of its component at most: what is found, put, merged or removed there is what is
-/// found, put, merged or removed at the spot of IDs to that place, refusals with their codes too.
+/// A spot whose steps, with keys or without, have a place in its component leads to that one: what is found, put, merged or removed
+/// there is what is found, put, merged or removed at the spot of IDs to that place, refusals with their codes too.
 pub fn a_spot_leads_to_one_place()
     ensures found { (p : Purpose) (site : Site) (path : List Step) (ids : List ℕ) (s : Stored) (ty : Ty) (v : Value) → AreFitting s → seen purpose.Look (spot_at site []) s ≡ Ok (ty, v) → place path ty v ≡ Ok ids → seen p (spot_at site path) s ≡ seen p (spot_by site ids) s }
     ensures put { (site : Site) (path : List Step) (ids bytes : List ℕ) (s : Stored) (ty : Ty) (v : Value) → AreFitting s → seen purpose.Look (spot_at site []) s ≡ Ok (ty, v) → place path ty v ≡ Ok ids → put_spot (spot_at site path) bytes s ≡ put_spot (spot_by site ids) bytes s }

@@ -19,7 +19,7 @@ use std::mem;
 pub enum Slot {
     /// It has no value.
     Absent,
-    /// Its value, which is no array.
+    /// Its value, where it is no array whose entries are kept one by one.
     Whole(Value),
     /// It is an array with these entries.
     Entries(Rows),

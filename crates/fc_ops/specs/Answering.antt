@@ -1,15 +1,13 @@
 -- Which contents the response to a query holds. The leaves are answered in order: a leaf's content stands where the response with it,
 -- with what stands before it and with a RESULT in all other leaves passes no length field, and else a RESULT that says so. This
 -- profile's own.
-use Rattle.std.specs.Prelude.{ℕ, ◌+◌, ◌&&◌, Bool, true, false, List, [], ◌∷◌, length, map}
-use Rattle.fc_path.specs.Canon.{Written, joined, path_written, select_written}
-use Rattle.fc_path.specs.Results.{path_results}
+use Rattle.std.specs.Prelude.{ℕ, ◌&&◌, Bool, true, false, List, [], ◌∷◌, map}
+use Rattle.fc_path.specs.Canon.{Written, joined, select_written}
 use Rattle.std.specs.List.{list_all}
 use Rattle.fc_path.specs.declared.oper.Oper.{Oper}
 use Rattle.fc_path.specs.declared.oper.Oper.TheVariants as oper
 use Rattle.fc_path.specs.declared.oper.Select.{Select}
-use Rattle.fc_path.specs.declared.path.PathData.{PathData}
-use Rattle.fc_ops.specs.Filling.{paths_filled, selects_filled}
+use Rattle.fc_ops.specs.Filling.{selects_filled}
 use Rattle.fc_ops.specs.Choosing.{small, select_blank}
 use Rattle.fc_ops.specs.declared.offers.Content.{Content}
 use Rattle.fc_ops.specs.declared.offers.Content.TheVariants as content
@@ -31,14 +29,6 @@ abbrev pub answered : (List Content → Bool) → List Content → List Content
 answered fits [] = []
 answered fits (c ∷ cs) =
     kept (fits (c ∷ map no_content cs)) c ∷ answered (λ more. fits (kept (fits (c ∷ map no_content cs)) c ∷ more)) cs
-
--- PATH-DATA with results alone
-abbrev pub results_of : List PathData → Written
-results_of paths = joined (map (λ p. path_written (path_results p)) paths)
-
--- whether PATH-DATA with these contents in their leaves fit, in containers that may grow by so many bytes behind the results
-abbrev pub fits_in : List PathData → ℕ → List Content → Bool
-fits_in paths room contents = small (joined (map path_written (paths_filled paths contents).0)) (length (results_of paths).text + room)
 
 -- the response of results alone, behind the header of the message
 abbrev pub blank : List Select → Written

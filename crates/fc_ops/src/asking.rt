@@ -1,10 +1,9 @@
 // Queries over the configuration, the values that the element itself tells, and properties.
-ghost use Rattle.std.specs.Prelude.{◌≡◌, IfOk, true, map, option_map, slice_get};
+ghost use Rattle.std.specs.Prelude.{◌≡◌, IfOk, true, map};
 ghost use Rattle.std.specs.List.{list_all};
 ghost use Rattle.fc_instance.specs.Cells.{look_cell};
 ghost use Rattle.fc_path.specs.Results.{results_fit};
-ghost use Rattle.fc_store.specs.Stores as stores;
-ghost use Rattle.fc_store.specs.Stores.{declared_in, seen};
+ghost use Rattle.fc_store.specs.Stores.{seen};
 ghost use Rattle.fc_store.specs.declared.spots.Purpose.TheVariants as purpose;
 ghost use Rattle.fc_value.specs.Outcomes.{Gives};
 ghost use Rattle.fc_value.specs.Writing.{full_bytes};
@@ -17,8 +16,8 @@ use crate::questions::{Question, questions_of};
 use crate::{Content, Offers, answer_query};
 use fc_base::{Code, Duplicate, List, Memory, Octets, OpFault};
 use fc_path::{Select, Spot, Step};
-use fc_store::{Purpose, Store, resolve, walk};
-use fc_types::{Component, Library, Ty, is_live, with_id};
+use fc_store::{Purpose, Store, component_at, further, resolve, walk};
+use fc_types::{Ty, is_live};
 use fc_value::{Live, Value, write_full};
 use fc_wire::Ilv;
 use std::alloc::Global;
@@ -30,26 +29,6 @@ pub enum Prop {
     Held(List<Ilv>),
     /// The code by which there are none.
     Refused(Code),
-}
-
-// The steps behind the one to the component.
-fn further(steps: &[Step]) -> &[Step]
-    ensures { result.now ≡ stores.further steps.now }
-{
-    match steps {
-        [] => steps,
-        [_, rest @ ..] => rest,
-    }
-}
-
-// The component at a place of a class.
-fn component_at(library: &Library, class: u32, place: usize) -> Option<&Component>
-    ensures { option_map (λ x. x.now) result ≡ slice_get (declared_in library.now class) place }
-{
-    match with_id(library.classes(), class) {
-        Some(found) => found.components.get(place),
-        None => None,
-    }
 }
 
 // The live component into which steps lead.

@@ -3,8 +3,7 @@ ghost use Rattle.std.specs.Prelude.{◌≡◌, ◌+◌, ◌-◌, ◌≤◌, ◌+
 ghost use Rattle.std.specs.List.{fold};
 ghost use Rattle.fc_path.specs.Canon.{path_written};
 ghost use Rattle.fc_path.specs.Results.{path_results};
-ghost use Rattle.fc_ops.specs.Filling.{content_written, leaves_in_all};
-ghost use Rattle.fc_ops.specs.Answering.{answered, results_of, fits_in};
+ghost use Rattle.fc_ops.specs.Filling.{content_written};
 ghost use Rattle.fc_ops.specs.Choosing.{going, spare, small, gone, narrowed, leaf_walk, through_body, through_path};
 
 use crate::{Content, Offers, content_size};
@@ -13,7 +12,7 @@ use fc_path::{Body, PathData, path_size};
 use std::alloc::Global;
 
 // The greatest length of a TLV, in bytes.
-const TLV: usize = 65_535;
+pub(crate) const TLV: usize = 65_535;
 // The bytes of a RESULT, in the place of which a content stands.
 const RESULT: usize = 8;
 
@@ -78,10 +77,10 @@ fn choose_leaf<O: Offers>(
     }
 }
 
-/// Appends the contents of the leaves of a PATH-DATA, which may grow by `room` bytes together with what it stands in, and gives what
-/// room is left then. A content that is shorter than a RESULT makes room.
+// Appends the contents of the leaves of a PATH-DATA, which may grow by `room` bytes together with what it stands in, and gives what
+// room is left then. A content that is shorter than a RESULT makes room.
 #[cycle(choose)]
-pub fn choose_path<O: Offers>(
+fn choose_path<O: Offers>(
     offers: &mut O,
     path: &PathData,
     room: usize,
@@ -114,22 +113,6 @@ fn choose_body<O: Offers>(
         Body::Sparse(_) => choose_leaf(offers, room, chosen),
         Body::Outcome(_) => choose_leaf(offers, room, chosen),
     }
-}
-
-/// The contents of the leaves of PATH-DATA, in containers that may grow by `room` bytes beyond the results alone.
-pub fn answer_paths<O: Offers>(
-    alloc: Global,
-    offers: &mut O,
-    paths: &[PathData],
-    room: usize,
-) -> Result<List<Content>, Memory>
-    requires fits { (results_of paths.now).fits ≡ true }
-    requires count { length (O.offered offers.old) ≡ leaves_in_all paths.now }
-    ensures { IfOk result (λ contents. contents ≡ answered (fits_in paths.now room) (O.offered offers.old)) }
-{
-    let mut contents = List::new(alloc);
-    let _left = choose_paths(offers, paths, room, &mut contents)?;
-    Ok(contents)
 }
 
 #[cycle(choose)]

@@ -9,7 +9,6 @@ mod questions;
 mod selects;
 
 pub use asking::{Prop, query};
-pub use choose::{answer_paths, choose_path};
 pub use fc_path::fits_results;
 pub use fc_value::Live;
 pub use filling::fill;

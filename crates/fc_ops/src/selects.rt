@@ -7,7 +7,7 @@ ghost use Rattle.fc_ops.specs.Filling.{leaves_in_selects, selects_filled};
 ghost use Rattle.fc_ops.specs.Answering.{answered, response_fits, is_queried};
 ghost use Rattle.fc_ops.specs.Choosing.{going, spare, oper_part, select_part, through_oper, through_select};
 
-use crate::choose::{choose_paths, narrower};
+use crate::choose::{TLV, choose_paths, narrower};
 use crate::{Content, Offers, fill};
 use fc_base::{List, Memory};
 use fc_path::{Oper, Select, oper_size, select_size};
@@ -15,8 +15,6 @@ use std::alloc::Global;
 
 // The greatest length of a message behind its header, in bytes.
 const MESSAGE: usize = 262_116;
-// The greatest length of a TLV, in bytes.
-const TLV: usize = 65_535;
 
 fn oper_spare(oper: &Oper) -> usize
     ensures { result ≡ spare 65535 (oper_part oper.now) }

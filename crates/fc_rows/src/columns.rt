@@ -116,7 +116,8 @@ impl Rows {
         self.entries.len()
     }
 
-    /// Makes room for so many entries more. After an `Err` the entries and the room are as before.
+    /// Makes room for so many entries more. After an `Err` the entries are as before, and the room is
+    /// not less.
     pub fn reserve(&mut self, count: usize) -> Result<(), Memory>
         ensures same { self.new.0 ≡ self.old.0 }
         ensures ok { OnOk result (map.len self.old.0 + count ≤ self.new.1.0) }

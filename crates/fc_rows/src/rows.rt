@@ -40,16 +40,6 @@ impl Model for RowList {
 }
 
 impl RowList {
-    /// The entries, which rise by their subscripts.
-    pub fn of(entries: List<(u32, Value)>) -> RowList
-        requires { IsTrue (is_sorted nat_cmp entries) }
-        ensures { result.0 ≡ from_sorted entries }
-    {
-        RowList {
-            entries: entries.into_vec(),
-        }
-    }
-
     /// No entry, which takes no memory.
     pub fn new(alloc: Global) -> RowList
         ensures { result.0 ≡ map.empty }
@@ -90,7 +80,7 @@ impl RowList {
         self.entries.as_slice()
     }
 
-    /// Makes room for so many entries more. After an `Err` nothing has changed.
+    /// Makes room for so many entries more. After an `Err` the entries are as before, and the room is not less.
     pub fn reserve(&mut self, count: usize) -> Result<(), Memory>
         ensures same { self.new.0 ≡ self.old.0 }
         ensures ok { OnOk result (map.len self.old.0 + count ≤ self.new.1) }

@@ -13,7 +13,7 @@ use fc_types::{Component, Instances, Library, Ty, with_id};
 use fc_wire::Ilv;
 use std::alloc::Global;
 
-// The steps behind the one to the component.
+/// The steps behind the one to the component.
 pub fn further(steps: &[Step]) -> &[Step]
     ensures { result.now ≡ spec.further steps.now }
 {
@@ -23,7 +23,7 @@ pub fn further(steps: &[Step]) -> &[Step]
     }
 }
 
-// The component at a place of a class.
+/// The component at a place of a class of a library; none where there is none.
 pub fn component_at(library: &Library, class: u32, place: usize) -> Option<&Component>
     ensures { option_map (λ x. x.now) result ≡ slice_get (declared_in library.now class) place }
 {

@@ -10,6 +10,7 @@ mod scopes;
 mod spots;
 mod store;
 
+pub use changes::{component_at, further};
 pub use fc_tree::walk;
 pub use laws::{
     found_components_are_declared, instances_apart, marks_give_back, what_is_beside_stays,
