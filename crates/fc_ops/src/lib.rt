@@ -4,6 +4,7 @@
 mod asking;
 mod choose;
 mod filling;
+mod laws;
 mod offers;
 mod questions;
 mod selects;
@@ -11,6 +12,7 @@ mod selects;
 pub use asking::{Prop, query};
 pub use fc_path::fits_results;
 pub use fc_value::Live;
-pub use filling::fill;
+pub use filling::{fill, oper_filled};
+pub use laws::answers_fit;
 pub use offers::{Content, Offers, content_size};
 pub use selects::{answer_query, answer_selects};
