@@ -1,0 +1,158 @@
+// Operations on a store that can be undone together.
+ghost use Rattle.std.specs.Prelude.{◌≡◌, IfOk, OnErr};
+ghost use Rattle.fc_exec.specs.Operations.{applied, made, set_spot, leaf_made};
+ghost use Rattle.fc_exec.specs.Running.{Named, applied_to, at_mark, lies_in, named, refused_keeps, unmarked};
+ghost use Rattle.fc_path.specs.declared.path.Body.{out-Body};
+ghost use Rattle.fc_store.specs.Stores.{Did};
+
+use crate::operations::Operation;
+use fc_base::{Code, Memory, OpFault};
+use fc_modes::Runner;
+use fc_path::{Body, OperKind, Spot};
+use fc_store::{Store, StoreMark};
+
+// A SET.
+fn set(store: &mut Store, spot: &Spot, body: &Body) -> Result<(), OpFault>
+    ensures { Did result (set_spot spot.now (out-Body body.now) store.old) store.old store.new }
+{
+    match body {
+        Body::Full(value) => store.put(spot, value.as_slice()),
+        Body::Sparse(ilvs) => store.merge(spot, ilvs.as_slice()),
+        Body::Nothing => Err(OpFault::Refused(Code::NOT_SUPPORTED)),
+        Body::Outcome(_) => Err(OpFault::Refused(Code::NOT_SUPPORTED)),
+        Body::Nested(_) => Err(OpFault::Refused(Code::NOT_SUPPORTED)),
+    }
+}
+
+fn attempt_at(store: &mut Store, kind: OperKind, spot: &Spot, body: &Body) -> Result<(), OpFault>
+    ensures { Did result (leaf_made kind spot.now body.now store.old) store.old store.new }
+{
+    match kind {
+        OperKind::Set => set(store, spot, body),
+        OperKind::Del => store.remove(spot),
+        OperKind::SetProp
+        | OperKind::SetResponse
+        | OperKind::SetPropResponse
+        | OperKind::DelResponse
+        | OperKind::Get
+        | OperKind::GetProp
+        | OperKind::GetResponse
+        | OperKind::GetPropResponse
+        | OperKind::Report => Err(OpFault::Refused(Code::NOT_SUPPORTED)),
+    }
+}
+
+fn attempt(store: &mut Store, operation: &Operation<'_>) -> Result<(), OpFault>
+    ensures { Did result (made operation.now store.old) store.old store.new }
+{
+    match operation {
+        Operation::Leaf(leaf) => {
+            let spot = leaf.spot()?;
+            attempt_at(store, leaf.kind(), &spot, leaf.body())
+        }
+        Operation::Commit => Err(OpFault::Refused(Code::INVALID_FLAGS)),
+        Operation::Trcomp => Err(OpFault::Refused(Code::INVALID_FLAGS)),
+    }
+}
+
+// Does an operation on a store, and gives its code. After an `Err` nothing has changed.
+fn carry_out(store: &mut Store, operation: &Operation<'_>) -> Result<Code, Memory>
+    ensures coded { IfOk result (λ code. (store.new, code) ≡ applied store.old operation.now) }
+    ensures err { OnErr result (store.new ≡ store.old) }
+{
+    match attempt(store, operation) {
+        Ok(()) => Ok(Code::SUCCESS),
+        Err(fault) => match fault {
+            OpFault::Refused(code) => Ok(code),
+            OpFault::Memory => Err(Memory),
+        },
+    }
+}
+
+/// What runs operations at the instances of a scope. It has room for one mark, which is over these alone.
+#[derive(Drop)]
+pub struct Running<'a> {
+    store: &'a mut Store,
+    scope: &'a [(u32, u32)],
+    mark: Option<StoreMark>,
+}
+
+/// The mark of a run.
+#[derive(Drop)]
+pub struct RunMark;
+
+impl<'a> Running<'a> {
+    /// Runs operations on this store, without a mark.
+    pub fn over(store: &'a mut Store, scope: &'a [(u32, u32)]) -> Running<'a> {
+        Running {
+            store,
+            scope,
+            mark: None,
+        }
+    }
+
+    /// Ends the mark, where it still stands, and keeps what was done.
+    pub fn finish(self) {
+        let Running { store, mark, .. } = self;
+        if let Some(mark) = mark {
+            store.release(mark);
+        }
+    }
+
+    // Whether an operation is at an instance of the scope, or at none.
+    fn has(&self, operation: &Operation<'_>) -> bool
+        ensures { result ≡ lies_in self.now.scope.now operation.now }
+    {
+        match operation {
+            Operation::Leaf(leaf) => leaf.is_at(self.scope),
+            Operation::Commit => true,
+            Operation::Trcomp => true,
+        }
+    }
+}
+
+impl<'a> Runner for Running<'a> {
+    type Op = Operation<'a>;
+
+    type Mark = RunMark;
+
+    ghost State = { Named };
+
+    ghost state = { λ r. (r.store.ghost_name, unmarked r.mark r.store.now) };
+
+    ghost marked = { λ r. named r.store.ghost_name (at_mark r.scope.now r.mark r.store.now) };
+
+    ghost below = { λ _. 0 };
+
+    ghost effect = { applied_to };
+
+    fn mark(&mut self) -> Result<RunMark, Memory> {
+        if self.mark.is_some() {
+            return Err(Memory);
+        }
+        let mark = self.store.mark_for(self.scope)?;
+        self.mark = Some(mark);
+        Ok(RunMark)
+    }
+
+    fn apply(&mut self, operation: &Operation<'a>) -> Result<Code, Memory> {
+        if !self.has(operation) {
+            return Err(Memory);
+        }
+        carry_out(self.store, operation)
+    }
+
+    fn rollback(&mut self, _mark: RunMark) {
+        if let Some(mark) = self.mark.take() {
+            self.store.rollback(mark);
+        }
+    }
+
+    fn release(&mut self, _mark: RunMark) {
+        if let Some(mark) = self.mark.take() {
+            self.store.release(mark);
+        }
+    }
+
+    ghost refused = { refused_keeps };
+}

@@ -1,0 +1,9 @@
+//! Tests of executing a Config on a store: each operation with its code in each mode, and lists at their limits.
+#![tactic(auto)]
+
+#[cfg(test)]
+mod configs;
+#[cfg(test)]
+mod modes;
+#[cfg(test)]
+mod ports;
