@@ -1,9 +1,9 @@
 -- What a run of operations on a store knows while its one mark stands: this profile's own.
-use Rattle.std.specs.Prelude.{◌≡◌, ◌≢◌, refl, Result, Ok, Err, ℕ, ◌==◌, not, ◌&&◌, ◌||◌, Bool, true, false, List, [], ◌∷◌, length, map, Option, Some, None, if◌then◌else◌}
+use Rattle.std.specs.Prelude.{◌≡◌, ◌≢◌, refl, Result, Ok, Err, ℕ, ◌==◌, not, ◌&&◌, ◌||◌, Bool, true, false, List, [], ◌∷◌, map, Option, Some, None, if◌then◌else◌}
 use Rattle.std.specs.List.{list_any}
-use Rattle.fc_store.specs.Stores.{Stored, Tree, gone_back, is_in, over_mark, places_in, without_mark}
+use Rattle.fc_store.specs.Stores.{Components, Stored, gone_back, is_in, over_mark, places_in, without_mark}
 use Rattle.fc_types.specs.Libraries.{same_instance}
-use Rattle.fc_exec.specs.Operations.{applied, coded, made}
+use Rattle.fc_exec.specs.Operations.{applied, at_marks, coded, made}
 use Rattle.fc_exec.specs.declared.operations.Operation.{Operation}
 use Rattle.fc_exec.specs.declared.operations.Operation.TheVariants as operation
 
@@ -13,18 +13,19 @@ same_numbers [] (y ∷ ys) = false
 same_numbers (x ∷ xs) [] = false
 same_numbers (x ∷ xs) (y ∷ ys) = (x == y) && same_numbers xs ys
 
-abbrev pub is_marked : Tree → Bool
-is_marked t = not (length t.held == 0)
+abbrev pub is_marked : List Components → Bool
+is_marked [] = false
+is_marked (x ∷ xs) = true
 
 -- each instance of a scope has a mark
-abbrev pub all_marked : List (ℕ × ℕ) → List (ℕ × ℕ) → List Tree → Bool
-all_marked scope [] ts = true
+abbrev pub all_marked : List (ℕ × ℕ) → List (ℕ × ℕ) → List (List Components) → Bool
+all_marked scope [] hs = true
 all_marked scope (pair ∷ pairs) [] = true
-all_marked scope (pair ∷ pairs) (t ∷ ts) = (not (is_in scope pair) || is_marked t) && all_marked scope pairs ts
+all_marked scope (pair ∷ pairs) (h ∷ hs) = (not (is_in scope pair) || is_marked h) && all_marked scope pairs hs
 
 -- a mark is over the instances of a scope, each of which has one
 abbrev pub stands : List (ℕ × ℕ) → List (ℕ × ℕ) → Stored → Bool
-stands scope mark s = same_numbers (map (λ m. m.0) mark) (places_in scope 0 s.instances) && all_marked scope s.instances s.trees
+stands scope mark s = same_numbers (map (λ m. m.0) mark) (places_in scope 0 s.instances) && all_marked scope s.instances (at_marks s)
 
 -- an operation is at an instance that a scope names, or at none
 abbrev pub lies_in : List (ℕ × ℕ) → Operation → Bool

@@ -1,5 +1,5 @@
 // Operations on a store that can be undone together.
-ghost use Rattle.std.specs.Prelude.{◌≡◌, IfOk, OnErr};
+ghost use Rattle.std.specs.Prelude.{◌≡◌, None, IfOk, OnErr};
 ghost use Rattle.fc_exec.specs.Operations.{applied, made, set_spot, leaf_made};
 ghost use Rattle.fc_exec.specs.Running.{Named, applied_to, at_mark, lies_in, named, refused_keeps, unmarked};
 ghost use Rattle.fc_path.specs.declared.path.Body.{out-Body};
@@ -83,7 +83,11 @@ pub struct RunMark;
 
 impl<'a> Running<'a> {
     /// Runs operations on this store, without a mark.
-    pub fn over(store: &'a mut Store, scope: &'a [(u32, u32)]) -> Running<'a> {
+    pub fn over(store: &'a mut Store, scope: &'a [(u32, u32)]) -> Running<'a>
+        ensures same_reference { result.store.ghost_name ≡ store.entry.ghost_name }
+        ensures store { result.store.now ≡ store.old }
+        ensures mark { result.mark ≡ None }
+    {
         Running {
             store,
             scope,
@@ -92,10 +96,12 @@ impl<'a> Running<'a> {
     }
 
     /// Ends the mark, where it still stands, and keeps what was done.
-    pub fn finish(self) {
-        let Running { store, mark, .. } = self;
-        if let Some(mark) = mark {
-            store.release(mark);
+    pub fn finish(&mut self)
+        ensures same_reference { self.new.store.ghost_name ≡ self.old.store.ghost_name }
+        ensures store { self.new.store.now ≡ unmarked self.old.mark self.old.store.now }
+    {
+        if let Some(mark) = self.mark.take() {
+            self.store.release(mark);
         }
     }
 

@@ -1,15 +1,17 @@
 // The library of the tests, Configs by their text, and what they are answered.
-use fc_base::{Code, Memory, OpFault};
+use fc_base::{Code, List, Memory, OpFault};
 use fc_exec::exec;
 use fc_library::library_from_slice;
 use fc_modes::Mode;
+use fc_path::{Select, Spot, Step};
 use fc_store::Store;
 use fc_text::read_body;
 use std::alloc::Global;
 
-// Numbers, a table with a key, a text that may be absent, a number that can only be read, and an event.
+// Of class 1001 numbers, a table with a key, a text that may be absent, a number that can only be read, and an event; of class 1002 one
+// table of 65,536 numbers.
 const DOCUMENT: &str =
-    "[[class]]\nid = 4097\nname = 'Port'\nevent_base = 60\ncomponent = [\n{ id = 1, name = 'speed', type = 'u32', max = 1000 },\n{ id = 2, name = 'mtu', type = 'u32', max = 9000 },\n{ id = 3, name = 'queue', type = 'u32' },\n{ id = 4, name = 'ports', type = 'array', entries = 4, entry = { type = 'struct', fields = [\n{ id = 1, name = 'name', type = 'string', length = 16 },\n{ id = 2, name = 'rate', type = 'u32' },\n{ id = 3, name = 'up', type = 'bool' } ] }, keys = [{ id = 1, fields = [1] }] },\n{ id = 5, name = 'note', type = 'string', length = 40, optional = true },\n{ id = 6, name = 'serial', type = 'u32', access = 1 },\n{ id = 7, name = 'table', type = 'array', entries = 65536, entry = { type = 'u32' } } ]\nevent = [{ id = 1, name = 'fast', when = 'greater', target = [1] }]\n[[instance]]\nclass = 4097\nid = 1\n[[instance]]\nclass = 4097\nid = 2\n[[instance]]\nclass = 4097\nid = 3\n";
+    "[[class]]\nid = 4097\nname = 'Port'\nevent_base = 60\ncomponent = [\n{ id = 1, name = 'speed', type = 'u32', max = 1000 },\n{ id = 2, name = 'mtu', type = 'u32', max = 9000 },\n{ id = 3, name = 'queue', type = 'u32' },\n{ id = 4, name = 'ports', type = 'array', entries = 4, entry = { type = 'struct', fields = [\n{ id = 1, name = 'name', type = 'string', length = 16 },\n{ id = 2, name = 'rate', type = 'u32' },\n{ id = 3, name = 'up', type = 'bool' } ] }, keys = [{ id = 1, fields = [1] }] },\n{ id = 5, name = 'note', type = 'string', length = 40, optional = true },\n{ id = 6, name = 'serial', type = 'u32', access = 1 } ]\nevent = [{ id = 1, name = 'fast', when = 'greater', target = [1] }]\n[[class]]\nid = 4098\nname = 'Table'\ncomponent = [{ id = 1, name = 'numbers', type = 'array', entries = 65536, entry = { type = 'u32' } }]\n[[instance]]\nclass = 4097\nid = 1\n[[instance]]\nclass = 4097\nid = 2\n[[instance]]\nclass = 4097\nid = 3\n[[instance]]\nclass = 4098\nid = 1\n";
 
 pub(crate) fn opened(alloc: Global) -> Result<Store, Memory> {
     match library_from_slice(alloc, DOCUMENT.as_bytes()) {
@@ -18,20 +20,81 @@ pub(crate) fn opened(alloc: Global) -> Result<Store, Memory> {
     }
 }
 
-// The codes of a Config, as they stand in bytes; none where its text is none.
-pub(crate) fn codes(
+fn numbers(alloc: Global, codes: &[Code]) -> Result<Vec<u8>, Memory> {
+    let mut numbers = Vec::new(alloc);
+    for code in codes {
+        numbers.push(code.0)?;
+    }
+    Ok(numbers)
+}
+
+// Whether these selects are answered with these codes.
+pub(crate) fn gives(
+    alloc: Global,
+    store: &mut Store,
+    mode: Mode,
+    selects: &[Select],
+    wanted: &[u8],
+) -> Result<bool, Memory> {
+    let codes = exec(alloc, store, selects, mode)?;
+    let codes = numbers(alloc, codes.as_slice())?;
+    Ok(codes.as_slice() == wanted)
+}
+
+// Whether a Config, by its text, is answered with these codes.
+pub(crate) fn answers(
     alloc: Global,
     store: &mut Store,
     mode: Mode,
     text: &str,
-) -> Result<Option<Vec<u8>>, Memory> {
-    let Ok(selects) = read_body(alloc, text.as_bytes()) else {
-        return Ok(None);
-    };
-    let codes = exec(alloc, store, selects.as_slice(), mode)?;
-    let mut bytes = Vec::new(alloc);
-    for code in codes.as_slice() {
-        bytes.push(code.0)?;
+    wanted: &[u8],
+) -> Result<bool, Memory> {
+    match read_body(alloc, text.as_bytes()) {
+        Ok(selects) => gives(alloc, store, mode, selects.as_slice(), wanted),
+        Err(_) => Ok(false),
     }
-    Ok(Some(bytes))
+}
+
+fn spot(alloc: Global, class: u32, instance: u32, ids: &[u32]) -> Result<Spot, Memory> {
+    let mut steps = List::new(alloc);
+    for id in ids {
+        steps.push(Step::Id(*id))?;
+    }
+    Ok(Spot {
+        class,
+        instance,
+        steps,
+    })
+}
+
+// Whether these bytes stand at a place of an instance of Port.
+pub(crate) fn holds(
+    alloc: Global,
+    store: &Store,
+    instance: u32,
+    ids: &[u32],
+    wanted: &[u8],
+) -> Result<bool, OpFault> {
+    let spot = spot(alloc, 4097, instance, ids)?;
+    let (ty, node) = store.at(&spot)?;
+    let mut bytes = Vec::new(alloc);
+    node.write_full(ty, &mut bytes)?;
+    Ok(bytes.as_slice() == wanted)
+}
+
+// The code by which nothing is read at a place of the first Port, where it is refused.
+pub(crate) fn refusal(alloc: Global, store: &Store, ids: &[u32]) -> Result<Option<Code>, Memory> {
+    let spot = spot(alloc, 4097, 1, ids)?;
+    match store.at(&spot) {
+        Ok(_) => Ok(None),
+        Err(OpFault::Refused(code)) => Ok(Some(code)),
+        Err(OpFault::Memory) => Err(Memory),
+    }
+}
+
+// How many numbers stand in the table.
+pub(crate) fn entries(alloc: Global, store: &Store) -> Result<usize, OpFault> {
+    let spot = spot(alloc, 4098, 1, &[1])?;
+    let (_, node) = store.at(&spot)?;
+    Ok(node.entries().len())
 }

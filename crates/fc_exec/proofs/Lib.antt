@@ -1,0 +1,5 @@
+pub mod Places
+pub mod Applying
+pub mod Marking
+pub mod Named
+pub mod Walked
