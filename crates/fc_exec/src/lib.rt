@@ -1,9 +1,9 @@
 //! Executing the operations of a Config on a store in an execution mode.
 #![tactic(auto)]
 
-mod exec;
+mod executing;
 mod operations;
 mod running;
 
-pub use exec::exec;
+pub use executing::exec;
 pub use operations::{Operation, PlacedLeaf};

@@ -73,7 +73,7 @@ fn carry_out(store: &mut Store, operation: &Operation<'_>) -> Result<Code, Memor
 #[derive(Drop)]
 pub struct Running<'a> {
     store: &'a mut Store,
-    scope: &'a [(u32, u32)],
+    scope: Vec<(u32, u32)>,
     mark: Option<StoreMark>,
 }
 
@@ -83,7 +83,7 @@ pub struct RunMark;
 
 impl<'a> Running<'a> {
     /// Runs operations on this store, without a mark.
-    pub fn over(store: &'a mut Store, scope: &'a [(u32, u32)]) -> Running<'a>
+    pub fn over(store: &'a mut Store, scope: Vec<(u32, u32)>) -> Running<'a>
         ensures same_reference { result.store.ghost_name ≡ store.entry.ghost_name }
         ensures store { result.store.now ≡ store.old }
         ensures mark { result.mark ≡ None }
@@ -107,10 +107,10 @@ impl<'a> Running<'a> {
 
     // Whether an operation is at an instance of the scope, or at none.
     fn has(&self, operation: &Operation<'_>) -> bool
-        ensures { result ≡ lies_in self.now.scope.now operation.now }
+        ensures { result ≡ lies_in self.now.scope.items operation.now }
     {
         match operation {
-            Operation::Leaf(leaf) => leaf.is_at(self.scope),
+            Operation::Leaf(leaf) => leaf.is_at(&self.scope),
             Operation::Commit => true,
             Operation::Trcomp => true,
         }
@@ -126,7 +126,7 @@ impl<'a> Runner for Running<'a> {
 
     ghost state = { λ r. (r.store.ghost_name, unmarked r.mark r.store.now) };
 
-    ghost marked = { λ r. named r.store.ghost_name (at_mark r.scope.now r.mark r.store.now) };
+    ghost marked = { λ r. named r.store.ghost_name (at_mark r.scope.items r.mark r.store.now) };
 
     ghost below = { λ _. 0 };
 
@@ -136,7 +136,7 @@ impl<'a> Runner for Running<'a> {
         if self.mark.is_some() {
             return Err(Memory);
         }
-        let mark = self.store.mark_for(self.scope)?;
+        let mark = self.store.mark_for(&self.scope)?;
         self.mark = Some(mark);
         Ok(RunMark)
     }

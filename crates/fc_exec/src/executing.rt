@@ -27,7 +27,7 @@ fn scope_of(alloc: Global, selects: &[Select]) -> Result<Vec<(u32, u32)>, Memory
 fn run_all<'a>(
     alloc: Global,
     store: &'a mut Store,
-    scope: &'a [(u32, u32)],
+    scope: Vec<(u32, u32)>,
     mode: Mode,
     operations: &[Operation<'a>],
 ) -> Result<List<Code>, Memory>
@@ -58,5 +58,5 @@ pub fn exec(
 {
     let operations = operations_of(alloc, selects)?;
     let scope = scope_of(alloc, selects)?;
-    run_all(alloc, store, &scope, mode, &operations)
+    run_all(alloc, store, scope, mode, &operations)
 }
