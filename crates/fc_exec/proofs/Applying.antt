@@ -23,7 +23,7 @@ use Rattle.fc_store.proofs.Doing.{err_ok, leads, same_tree}
 use Rattle.fc_store.proofs.Lists.{get_map, map_at, map_each, none_some, some_is}
 use Rattle.fc_exec.specs.Operations.{applied, at_marks, coded, invalid_flags, leaf_made, set_spot}
 use Rattle.fc_exec.specs.Operations as spec
-use Rattle.fc_exec.specs.Running.{all_marked, applied_to, is_marked, lies_in, unmarked}
+use Rattle.fc_exec.specs.Running.{Named, all_marked, applied_to, is_marked, lies_in, unmarked}
 use Rattle.fc_exec.specs.declared.operations.Operation.{Operation}
 use Rattle.fc_exec.specs.declared.operations.Operation.TheVariants as operation
 use Rattle.fc_exec.proofs.Places.{at_each, at_id, at_next, changed_if, each_id, over_scope, within}
@@ -118,9 +118,9 @@ applied_unmarked op None s = refl
 applied_unmarked op (Some mark) s = applied_less op mark s
 
 -- what was done to a store with a mark was done to the store without it
-pub effect_is : (n : ℕ) (mark : Option (List (ℕ × ℕ))) (old new : Stored) (op : Operation) (code : ℕ) → (new, code) ≡ applied old op → ((n, unmarked mark new), code) ≡ applied_to (n, unmarked mark old) op
+pub effect_is : (n : ℕ) (mark : Option (List (ℕ × ℕ))) (old new : Stored) (op : Operation) (code : ℕ) → ◌≡◌ {A = Stored × ℕ} (new, code) (applied old op) → ◌≡◌ {A = Named × ℕ} ((n, unmarked mark new), code) (applied_to (n, unmarked mark old) op)
 effect_is n mark old new op code e =
-    let p : (unmarked mark new, code) ≡ applied (unmarked mark old) op = ap (λ (x : Stored × ℕ). (unmarked mark x.0, x.1)) e ∙ sym (applied_unmarked op mark old) in
+    let p : ◌≡◌ {A = Stored × ℕ} (unmarked mark new, code) (applied (unmarked mark old) op) = ap (λ (x : Stored × ℕ). (unmarked mark x.0, x.1)) e ∙ sym (applied_unmarked op mark old) in
     ap (λ (x : Stored × ℕ). ((n, x.0), x.1)) p
 
 -- ---- what a change leaves

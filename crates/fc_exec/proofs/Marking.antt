@@ -1,14 +1,16 @@
 -- A mark over the instances of a scope, and how it ends.
-use Rattle.std.proofs.Common.{◌≡◌, ℕ, ◌+◌, ◌-◌, ◌==◌, Bool, true, false, not, ◌&&◌, ◌||◌, List, [], ◌∷◌, ◌++◌, length, map, drop, take, slice_get, slice_index_or, refl, sym, ap, ◌∙◌, arith, Option, Some, None, if◌then◌else◌}
+use Rattle.std.proofs.Common.{◌≡◌, ℕ, ◌+◌, ◌-◌, ◌==◌, Bool, true, false, not, ◌&&◌, ◌||◌, List, [], ◌∷◌, ◌++◌, length, map, drop, take, slice_get, slice_index_or, refl, sym, ap, ◌∙◌, arith, Option, Some, None, Result, Ok, Err, IfOk, OnErr, if◌then◌else◌}
 use Rattle.std.proofs.lemmas.Bool.Decides.{nat_tests}
+use Rattle.std.specs.Option.{is_some}
+use Rattle.fc_base.specs.declared.faults.Memory.{Memory}
 use Rattle.fc_store.specs.Scopes.{each_at}
 use Rattle.fc_store.specs.Stores.{Components, Stored, Tree, gone_back, is_in, mark_of, marks_of, over_mark, places_in, with_mark, without_mark}
 use Rattle.fc_store.proofs.Doing.{same_tree}
 use Rattle.fc_store.proofs.Scoped.{front_of, last_of}
 use Rattle.fc_exec.specs.Operations.{applied, at_marks}
-use Rattle.fc_exec.specs.Running.{Named, all_marked, at_mark, is_marked, lies_in, named, same_numbers, stands, unmarked}
+use Rattle.fc_exec.specs.Running.{Named, all_marked, applied_to, at_mark, is_marked, lies_in, named, same_numbers, stands, unmarked}
 use Rattle.fc_exec.specs.declared.operations.Operation.{Operation}
-use Rattle.fc_exec.proofs.Applying.{at_marks_stay, back_stays, instances_stay}
+use Rattle.fc_exec.proofs.Applying.{at_marks_stay, back_stays, effect_is, instances_stay}
 use Rattle.fc_exec.proofs.Places.{changed_if, over_scope, within, within_undone}
 
 -- ---- the places of a mark
@@ -87,7 +89,7 @@ back_one : (t : Tree) → gone_back (with_mark t) ≡ t
 back_one t = same_tree (gone_back (with_mark t)) t (last_of t.held t.now (t.held ++ t.now ∷ []) t.now refl) (front_of t.held t.now (t.held ++ t.now ∷ []) refl)
 
 -- a mark that is set changes nothing of the store without it
-pub set_unmarked : (n : ℕ) (scope mark : List (ℕ × ℕ)) (old new : Stored) → mark ≡ mark_of scope old → new ≡ over_mark with_mark mark old → (n, unmarked (Some mark) new) ≡ (n, old)
+pub set_unmarked : (n : ℕ) (scope mark : List (ℕ × ℕ)) (old new : Stored) → mark ≡ mark_of scope old → new ≡ over_mark with_mark mark old → ◌≡◌ {A = Named} (n, unmarked (Some mark) new) (n, old)
 set_unmarked n scope mark old new m e =
     ap (λ s. (n, over_mark without_mark mark s)) e ∙ ap (λ k. (n, over_mark without_mark k (over_mark with_mark k old))) m ∙ ap (λ s. (n, s)) (undone without_mark less_one scope old)
 
@@ -99,6 +101,16 @@ pub set_at : (n : ℕ) (scope mark : List (ℕ × ℕ)) (old new : Stored) → m
 set_at n scope mark old new m e =
     ap (λ s. named n (at_mark scope (Some mark) s)) e ∙ ap (λ k. named n (at_mark scope (Some k) (over_mark with_mark k old))) m
     ∙ ap (λ b. named n (if_stands b (over_mark gone_back (mark_of scope old) (set scope old)))) (set_stands scope old) ∙ ap (λ s. (n, s) ∷ []) (undone gone_back back_one scope old)
+
+pub begins_unmarked : (n : ℕ) (scope mark : List (ℕ × ℕ)) (before : Option (List (ℕ × ℕ))) (old new : Stored) → is_some before ≡ false → mark ≡ mark_of scope old → new ≡ over_mark with_mark mark old
+    → ◌≡◌ {A = Named} (n, unmarked (Some mark) new) (n, unmarked before old)
+begins_unmarked n scope mark None old new none m e = set_unmarked n scope mark old new m e
+begins_unmarked n scope mark (Some other) old new none m e = absurd cc
+
+pub begins_at : (n : ℕ) (scope mark : List (ℕ × ℕ)) (before : Option (List (ℕ × ℕ))) (old new : Stored) → is_some before ≡ false → mark ≡ mark_of scope old → new ≡ over_mark with_mark mark old
+    → named n (at_mark scope (Some mark) new) ≡ (n, unmarked before old) ∷ named n (at_mark scope before old)
+begins_at n scope mark None old new none m e = set_at n scope mark old new m e
+begins_at n scope mark (Some other) old new none m e = absurd cc
 
 -- ---- operations, while it stands
 stays_by : (scope mark : List (ℕ × ℕ)) (s : Stored) (op : Operation) (b : Bool) → lies_in scope op ≡ true → stands scope mark s ≡ b
@@ -121,10 +133,21 @@ at_stays scope (Some mark) s op lies =
     ap (λ b. if_stands b (over_mark gone_back mark (applied s op).0)) (stands_still scope mark s op) ∙ stays_by scope mark s op (stands scope mark s) lies refl
 
 -- an operation at an instance of the scope changes nothing at the mark
-pub mark_stays : (n : ℕ) (scope : List (ℕ × ℕ)) (mark : Option (List (ℕ × ℕ))) (old new : Stored) (op : Operation) (code : ℕ) → lies_in scope op ≡ true → (new, code) ≡ applied old op
+pub mark_stays : (n : ℕ) (scope : List (ℕ × ℕ)) (mark : Option (List (ℕ × ℕ))) (old new : Stored) (op : Operation) (code : ℕ) → lies_in scope op ≡ true → ◌≡◌ {A = Stored × ℕ} (new, code) (applied old op)
     → named n (at_mark scope mark new) ≡ named n (at_mark scope mark old)
 mark_stays n scope mark old new op code lies e =
     ap (λ (x : Stored × ℕ). named n (at_mark scope mark x.0)) e ∙ ap (named n) (at_stays scope mark old op lies)
+
+-- the same for what a call answers, which after an error has changed nothing
+pub apply_stays : (n : ℕ) (scope : List (ℕ × ℕ)) (mark : Option (List (ℕ × ℕ))) (old new : Stored) (op : Operation) (result : Result ℕ Memory) → lies_in scope op ≡ true
+    → IfOk result (λ code. ◌≡◌ {A = Stored × ℕ} (new, code) (applied old op)) → OnErr result (new ≡ old) → named n (at_mark scope mark new) ≡ named n (at_mark scope mark old)
+apply_stays n scope mark old new op (Ok code) lies e err = mark_stays n scope mark old new op code lies e
+apply_stays n scope mark old new op (Err memory) lies e err = ap (λ s. named n (at_mark scope mark s)) err
+
+pub if_effect : (n : ℕ) (mark : Option (List (ℕ × ℕ))) (old new : Stored) (op : Operation) (result : Result ℕ Memory) → IfOk result (λ code. ◌≡◌ {A = Stored × ℕ} (new, code) (applied old op))
+    → IfOk result (λ code. ◌≡◌ {A = Named × ℕ} ((n, unmarked mark new), code) (applied_to (n, unmarked mark old) op))
+if_effect n mark old new op (Ok code) e = effect_is n mark old new op code e
+if_effect n mark old new op (Err memory) e = tt
 
 -- ---- it ends
 rolled_by : (n : ℕ) (s : Stored) (b : Bool) → 0 + 1 ≡ length (named n (if_stands b s)) → (n, s) ∷ [] ≡ named n (if_stands b s)

@@ -70,7 +70,7 @@ shifted : (scope : List (ℕ × ℕ)) (n m : ℕ) (pairs : List (ℕ × ℕ)) �
 shifted scope n m [] e = refl
 shifted scope n m (p ∷ pairs) e = shifted_by scope n m pairs (is_in scope p) e (shifted scope (n + 1) (m + 1) pairs (omega (arith, e)))
 
-abbrev changed_if : {A : Type 0} → (A → A) → Bool → A → A
+abbrev pub changed_if : {A : Type 0} → (A → A) → Bool → A → A
 changed_if f b x = if b then f x else x
 
 -- the members at the instances of a scope changed

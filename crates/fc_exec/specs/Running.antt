@@ -53,7 +53,7 @@ named name stores = map (λ s. (name, s)) stores
 abbrev pub applied_to : Named → Operation → Named × ℕ
 applied_to s op = ((s.0, (applied s.1 op).0), (applied s.1 op).1)
 
-refused_by : (name : ℕ) (s : Stored) (r : Result Stored ℕ) → (coded s r).1 ≢ 0 → (name, (coded s r).0) ≡ (name, s)
+refused_by : (name : ℕ) (s : Stored) (r : Result Stored ℕ) → (coded s r).1 ≢ 0 → ◌≡◌ {A = Named} (name, (coded s r).0) (name, s)
 refused_by name s (Ok t) bad = absurd (bad refl)
 refused_by name s (Err code) bad = refl
 

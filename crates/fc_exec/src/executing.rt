@@ -24,12 +24,12 @@ fn scope_of(alloc: Global, selects: &[Select]) -> Result<Vec<(u32, u32)>, Memory
 }
 
 // Executes operations at the instances of a scope.
-fn run_all<'a>(
+fn run_all<'o>(
     alloc: Global,
-    store: &'a mut Store,
+    store: &mut Store,
     scope: Vec<(u32, u32)>,
     mode: Mode,
-    operations: &[Operation<'a>],
+    operations: &[Operation<'o>],
 ) -> Result<List<Code>, Memory>
     ensures codes { IfOk result (λ codes. codes ≡ (outcome applied mode store.old operations.now).codes) }
     ensures state { OnOk result (store.new ≡ (outcome applied mode store.old operations.now).state) }

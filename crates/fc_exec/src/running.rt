@@ -10,6 +10,7 @@ use fc_base::{Code, Memory, OpFault};
 use fc_modes::Runner;
 use fc_path::{Body, OperKind, Spot};
 use fc_store::{Store, StoreMark};
+use std::marker::PhantomData;
 
 // A SET.
 fn set(store: &mut Store, spot: &Spot, body: &Body) -> Result<(), OpFault>
@@ -71,19 +72,20 @@ fn carry_out(store: &mut Store, operation: &Operation<'_>) -> Result<Code, Memor
 
 /// What runs operations at the instances of a scope. It has room for one mark, which is over these alone.
 #[derive(Drop)]
-pub struct Running<'a> {
-    store: &'a mut Store,
+pub struct Running<'s, 'o> {
+    store: &'s mut Store,
     scope: Vec<(u32, u32)>,
     mark: Option<StoreMark>,
+    operations: PhantomData<&'o Operation<'o>>,
 }
 
 /// The mark of a run.
 #[derive(Drop)]
 pub struct RunMark;
 
-impl<'a> Running<'a> {
+impl<'s, 'o> Running<'s, 'o> {
     /// Runs operations on this store, without a mark.
-    pub fn over(store: &'a mut Store, scope: Vec<(u32, u32)>) -> Running<'a>
+    pub fn over(store: &'s mut Store, scope: Vec<(u32, u32)>) -> Running<'s, 'o>
         ensures same_reference { result.store.ghost_name ≡ store.entry.ghost_name }
         ensures store { result.store.now ≡ store.old }
         ensures mark { result.mark ≡ None }
@@ -92,6 +94,7 @@ impl<'a> Running<'a> {
             store,
             scope,
             mark: None,
+            operations: PhantomData,
         }
     }
 
@@ -117,8 +120,8 @@ impl<'a> Running<'a> {
     }
 }
 
-impl<'a> Runner for Running<'a> {
-    type Op = Operation<'a>;
+impl<'s, 'o> Runner for Running<'s, 'o> {
+    type Op = Operation<'o>;
 
     type Mark = RunMark;
 
@@ -141,7 +144,7 @@ impl<'a> Runner for Running<'a> {
         Ok(RunMark)
     }
 
-    fn apply(&mut self, operation: &Operation<'a>) -> Result<Code, Memory> {
+    fn apply(&mut self, operation: &Operation<'o>) -> Result<Code, Memory> {
         if !self.has(operation) {
             return Err(Memory);
         }
