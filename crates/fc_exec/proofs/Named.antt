@@ -1,12 +1,13 @@
 -- The outcome of operations on a store that has a name, and what it leaves at the marks.
-use Rattle.std.proofs.Common.{◌≡◌, ℕ, ◌+◌, ◌-◌, ◌==◌, not, List, [], ◌∷◌, ◌++◌, length, replicate, slice_index, take, refl, ap, ◌∙◌, Option, Some, None}
+use Rattle.std.proofs.Common.{◌≡◌, ℕ, ◌+◌, ◌-◌, ◌==◌, not, List, [], ◌∷◌, ◌++◌, length, replicate, slice_index, take, refl, ap, ◌∙◌, Option, Some, None, Result, Ok, Err, IfOk, OnOk, OnErr}
 use Rattle.std.specs.List.{position}
 use Rattle.fc_modes.specs.Modes.{around, codes_of, first_refused, folded, outcome, outcome_by}
 use Rattle.fc_modes.specs.declared.mode.Mode.{Mode}
 use Rattle.fc_modes.specs.declared.mode.Mode.TheVariants.{AllOrNone, UntilFailure, Continue}
+use Rattle.fc_base.specs.declared.faults.Memory.{Memory}
 use Rattle.fc_store.specs.Stores.{Stored}
 use Rattle.fc_exec.specs.Operations.{applied, at_marks}
-use Rattle.fc_exec.specs.Running.{applied_to}
+use Rattle.fc_exec.specs.Running.{Named, applied_to}
 use Rattle.fc_exec.specs.declared.operations.Operation.{Operation}
 use Rattle.fc_exec.proofs.Applying.{at_marks_stay}
 
@@ -43,6 +44,26 @@ named_state n mode s ops = ap (λ o. (outcome_by applied_to o mode (n, s) ops).s
 pub named_codes : (n : ℕ) (mode : Mode) (s : Stored) (ops : List Operation) → (outcome applied_to mode (n, s) ops).codes ≡ (outcome applied mode s ops).codes
 named_codes n mode s ops = ap (λ o. (outcome_by applied_to o mode (n, s) ops).codes) (first_to n s ops) ∙ codes_by n mode s ops (first_refused applied s ops)
 
+-- ---- what a run answers
+pub reference_kept : (result : Result (List ℕ) Memory) (n : ℕ) (mode : Mode) (s : Stored) (ops : List Operation) (now : Named) → OnOk result (now ≡ (outcome applied_to mode (n, s) ops).state)
+    → OnErr result (◌≡◌ {A = Named} now (n, s)) → now.0 ≡ n
+reference_kept (Ok codes) n mode s ops now ok err = ap (λ (x : Named). x.0) (ok ∙ named_state n mode s ops)
+reference_kept (Err memory) n mode s ops now ok err = ap (λ (x : Named). x.0) err
+
+pub codes_kept : (result : Result (List ℕ) Memory) (n : ℕ) (mode : Mode) (s : Stored) (ops : List Operation) → IfOk result (λ codes. codes ≡ (outcome applied_to mode (n, s) ops).codes)
+    → IfOk result (λ codes. codes ≡ (outcome applied mode s ops).codes)
+codes_kept (Ok codes) n mode s ops e = e ∙ named_codes n mode s ops
+codes_kept (Err memory) n mode s ops e = tt
+
+pub state_kept : (result : Result (List ℕ) Memory) (n : ℕ) (mode : Mode) (s : Stored) (ops : List Operation) (now : Named) → OnOk result (now ≡ (outcome applied_to mode (n, s) ops).state)
+    → OnOk result (now.1 ≡ (outcome applied mode s ops).state)
+state_kept (Ok codes) n mode s ops now e = ap (λ (x : Named). x.1) (e ∙ named_state n mode s ops)
+state_kept (Err memory) n mode s ops now e = tt
+
+pub err_kept : (result : Result (List ℕ) Memory) (n : ℕ) (s : Stored) (now : Named) → OnErr result (◌≡◌ {A = Named} now (n, s)) → OnErr result (now.1 ≡ s)
+err_kept (Ok codes) n s now e = tt
+err_kept (Err memory) n s now e = ap (λ (x : Named). x.1) e
+
 -- ---- what stands at the marks
 folded_stay : (s : Stored) (ops : List Operation) → at_marks (folded applied s ops) ≡ at_marks s
 folded_stay s [] = refl
@@ -57,3 +78,7 @@ stay_by Continue s ops (Some at) = folded_stay s ops
 -- no mode changes what was held at the marks
 pub outcome_stays : (mode : Mode) (s : Stored) (ops : List Operation) → at_marks (outcome applied mode s ops).state ≡ at_marks s
 outcome_stays mode s ops = stay_by mode s ops (first_refused applied s ops)
+
+pub marks_kept : (result : Result (List ℕ) Memory) (mode : Mode) (s new : Stored) (ops : List Operation) → OnOk result (new ≡ (outcome applied mode s ops).state) → OnErr result (new ≡ s) → at_marks new ≡ at_marks s
+marks_kept (Ok codes) mode s new ops ok err = ap at_marks ok ∙ outcome_stays mode s ops
+marks_kept (Err memory) mode s new ops ok err = ap at_marks err

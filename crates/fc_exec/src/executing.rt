@@ -1,12 +1,11 @@
 // Executing the operations of selects.
 ghost use Rattle.std.specs.Prelude.{◌≡◌, IfOk, OnOk, OnErr};
-ghost use Rattle.fc_modes.specs.Modes.{outcome};
-ghost use Rattle.fc_exec.specs.Operations.{applied, at_marks, executed};
+ghost use Rattle.fc_exec.specs.Operations.{at_marks, executed};
 
-use crate::operations::{Operation, operations_of};
-use crate::running::Running;
+use crate::operations::operations_of;
+use crate::running::run_all;
 use fc_base::{Code, List, Memory};
-use fc_modes::{Mode, run_mode};
+use fc_modes::Mode;
 use fc_path::Select;
 use fc_store::Store;
 use std::alloc::Global;
@@ -21,24 +20,6 @@ fn scope_of(alloc: Global, selects: &[Select]) -> Result<Vec<(u32, u32)>, Memory
         }
     }
     Ok(scope)
-}
-
-// Executes operations at the instances of a scope.
-fn run_all<'o>(
-    alloc: Global,
-    store: &mut Store,
-    scope: Vec<(u32, u32)>,
-    mode: Mode,
-    operations: &[Operation<'o>],
-) -> Result<List<Code>, Memory>
-    ensures codes { IfOk result (λ codes. codes ≡ (outcome applied mode store.old operations.now).codes) }
-    ensures state { OnOk result (store.new ≡ (outcome applied mode store.old operations.now).state) }
-    ensures err { OnErr result (store.new ≡ store.old) }
-{
-    let mut running = Running::over(store, scope);
-    let codes = run_mode(alloc, &mut running, mode, operations);
-    running.finish();
-    codes
 }
 
 /// Executes the operations of the selects of a Config in this mode, and gives the code of each. An operation is a leaf, a COMMIT or a

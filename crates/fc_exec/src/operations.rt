@@ -277,10 +277,7 @@ fn push_opers<'a>(
     Ok(())
 }
 
-fn push_select<'a>(
-    operations: &mut Vec<Operation<'a>>,
-    select: &'a Select,
-) -> Result<(), Memory>
+fn push_select<'a>(operations: &mut Vec<Operation<'a>>, select: &'a Select) -> Result<(), Memory>
     ensures { OnOk result (operations.new.items ≡ operations.old.items ++ select_operations select.now) }
 {
     push_opers(
@@ -292,10 +289,7 @@ fn push_select<'a>(
 }
 
 /// The operations of selects, in reading order: each leaf, COMMIT and TRCOMP.
-pub fn operations_of<'a>(
-    alloc: Global,
-    selects: &'a [Select],
-) -> Result<Vec<Operation<'a>>, Memory>
+pub fn operations_of<'a>(alloc: Global, selects: &'a [Select]) -> Result<Vec<Operation<'a>>, Memory>
     ensures { IfOk result (λ operations. operations.items ≡ spec.operations selects.now) }
 {
     let mut operations = Vec::new(alloc);

@@ -1,15 +1,17 @@
 // Operations on a store that can be undone together.
-ghost use Rattle.std.specs.Prelude.{◌≡◌, None, IfOk, OnErr};
+ghost use Rattle.std.specs.Prelude.{◌≡◌, None, IfOk, OnOk, OnErr};
+ghost use Rattle.fc_modes.specs.Modes.{outcome};
 ghost use Rattle.fc_exec.specs.Operations.{applied, made, set_spot, leaf_made};
 ghost use Rattle.fc_exec.specs.Running.{Named, applied_to, at_mark, lies_in, named, refused_keeps, unmarked};
 ghost use Rattle.fc_path.specs.declared.path.Body.{out-Body};
 ghost use Rattle.fc_store.specs.Stores.{Did};
 
 use crate::operations::Operation;
-use fc_base::{Code, Memory, OpFault};
-use fc_modes::Runner;
+use fc_base::{Code, List, Memory, OpFault};
+use fc_modes::{Mode, Runner, run_mode};
 use fc_path::{Body, OperKind, Spot};
 use fc_store::{Store, StoreMark};
+use std::alloc::Global;
 use std::marker::PhantomData;
 
 // A SET.
@@ -70,6 +72,15 @@ fn carry_out(store: &mut Store, operation: &Operation<'_>) -> Result<Code, Memor
     }
 }
 
+// Ends a mark that may still stand, and keeps what was done.
+fn end(store: &mut Store, mark: Option<StoreMark>)
+    ensures { store.new ≡ unmarked mark store.old }
+{
+    if let Some(mark) = mark {
+        store.release(mark);
+    }
+}
+
 /// What runs operations at the instances of a scope. It has room for one mark, which is over these alone.
 #[derive(Drop)]
 pub struct Running<'s, 'o> {
@@ -95,16 +106,6 @@ impl<'s, 'o> Running<'s, 'o> {
             scope,
             mark: None,
             operations: PhantomData,
-        }
-    }
-
-    /// Ends the mark, where it still stands, and keeps what was done.
-    pub fn finish(&mut self)
-        ensures same_reference { self.new.store.ghost_name ≡ self.old.store.ghost_name }
-        ensures store { self.new.store.now ≡ unmarked self.old.mark self.old.store.now }
-    {
-        if let Some(mark) = self.mark.take() {
-            self.store.release(mark);
         }
     }
 
@@ -164,4 +165,38 @@ impl<'s, 'o> Runner for Running<'s, 'o> {
     }
 
     ghost refused = { refused_keeps };
+}
+
+// Runs operations in a mode. A mark that still stands then is none of the store that contracts tell.
+fn run_in<'o>(
+    alloc: Global,
+    running: &mut Running<'_, 'o>,
+    mode: Mode,
+    operations: &[Operation<'o>],
+) -> Result<List<Code>, Memory>
+    ensures same_reference { running.new.store.ghost_name ≡ running.old.store.ghost_name }
+    ensures codes { IfOk result (λ codes. codes ≡ (outcome applied mode (unmarked running.old.mark running.old.store.now) operations.now).codes) }
+    ensures state { OnOk result (unmarked running.new.mark running.new.store.now ≡ (outcome applied mode (unmarked running.old.mark running.old.store.now) operations.now).state) }
+    ensures err { OnErr result (unmarked running.new.mark running.new.store.now ≡ unmarked running.old.mark running.old.store.now) }
+{
+    run_mode(alloc, running, mode, operations)
+}
+
+/// Executes operations at the instances of a scope.
+pub fn run_all<'o>(
+    alloc: Global,
+    store: &mut Store,
+    scope: Vec<(u32, u32)>,
+    mode: Mode,
+    operations: &[Operation<'o>],
+) -> Result<List<Code>, Memory>
+    ensures codes { IfOk result (λ codes. codes ≡ (outcome applied mode store.old operations.now).codes) }
+    ensures state { OnOk result (store.new ≡ (outcome applied mode store.old operations.now).state) }
+    ensures err { OnErr result (store.new ≡ store.old) }
+{
+    let mut running = Running::over(store, scope);
+    let codes = run_in(alloc, &mut running, mode, operations);
+    let Running { store, mark, .. } = running;
+    end(store, mark);
+    codes
 }
