@@ -9,5 +9,5 @@ mod settings;
 mod watch;
 
 pub use laws::{an_equal_value_tells_nothing, arms_beyond_the_hysteresis};
-pub use settings::{Settings, event_props, read_settings};
+pub use settings::{Settings, event_props, push_prop, read_settings};
 pub use watch::{Condition, Seen, Told, Watch};

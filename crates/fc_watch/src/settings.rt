@@ -124,7 +124,8 @@ pub fn read_settings(settings: Settings, ilvs: &[Ilv]) -> Result<Settings, Code>
     Ok(now)
 }
 
-fn push_prop(props: &mut List<Ilv>, ident: u32, word: u32) -> Result<(), Memory>
+/// Appends a property whose value has four bytes.
+pub fn push_prop(props: &mut List<Ilv>, ident: u32, word: u32) -> Result<(), Memory>
     ensures { OnOk result (props.new ≡ spec.with_prop_told props.old ident word) }
 {
     let value = Octets::from_slice(props.alloc(), &word.to_be_bytes())?;
