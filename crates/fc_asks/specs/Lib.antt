@@ -1,4 +1,3 @@
-pub mod Components
 pub mod Tables
 pub mod Bodies
 pub mod Plans

@@ -21,7 +21,7 @@ use Rattle.fc_protocol.specs.declared.answers.TxnEntry.{TxnEntry}
 use Rattle.fc_protocol.specs.declared.states.Seen.{Seen}
 use Rattle.fc_protocol.specs.declared.states.Seen.TheVariants.{Absent}
 use Rattle.fc_asks.specs.Holdings.{held_by, entry_of_type, seen_in}
-use Rattle.fc_asks.specs.Components as components
+use Rattle.fc_plans.specs.Components as components
 use Rattle.fc_asks.specs.declared.queries.HeldAnswer.{HeldAnswer}
 use Rattle.fc_asks.specs.declared.queries.HeldAnswer.TheVariants as held_answer
 use Rattle.fc_asks.specs.declared.queries.RecordAnswer.{RecordAnswer}

@@ -15,7 +15,8 @@ use Rattle.fc_msg.specs.declared.message.Message.{Message}
 use Rattle.fc_msg.specs.declared.message.MsgBody.TheVariants.{Config, Query}
 use Rattle.fc_protocol.specs.Messages.{Body, Claim, Sot, Mot, Eot, Trcomp, Abt, Floor, Malformed, Plain, Ask, Ask_record}
 use Rattle.fc_protocol.specs.Scopes.{Scope}
-use Rattle.fc_asks.specs.Components as components
+use Rattle.fc_plans.specs.Components as components
+use Rattle.fc_plans.specs.Mastership.{of_transaction, on_mastership, path, sets, subject_bytes}
 use Rattle.fc_asks.specs.declared.life.Life.{Life}
 use Rattle.fc_asks.specs.Plans.{change_at, selects_of}
 use Rattle.fc_asks.specs.Tables.{found}
@@ -42,20 +43,6 @@ abort = 3
 -- an answer is always wanted
 abbrev pub flags : ℕ → Bool → ℕ → FlagValues
 flags em at tp = record { ack = 3; pri = 0; em = em; at = at; tp = tp }
-
-abbrev pub path : List ℕ → Option Key → Said → PathData
-path ids key b = roll-PathData (record { ids = ids; key = key; body = b })
-
--- one operation on the instance 1 of Mastership, or two
-abbrev pub on_mastership : List Oper → Select
-on_mastership opers = record { class = components.mastership; instance = 1; opers = opers }
-
-abbrev pub sets : ℕ → List ℕ → Oper
-sets id bytes = oper.Paths kinds.Set (path (id ∷ []) None (body.Full bytes) ∷ [])
-
--- a subject: epoch and number
-abbrev pub subject_bytes : Txn → List ℕ
-subject_bytes x = u32_bytes x.epoch ++ u32_bytes x.number
 
 -- the entries of an array of numbers, with subscripts from one on
 abbrev pub numbers_from : ℕ → List ℕ → List ℕ
@@ -92,7 +79,7 @@ asks_record x = path (components.epoch ∷ []) None body.Nothing ∷ path (compo
 abbrev pub request_of : Life → ℕ → ℕ → Body → Message
 request_of life p corr (Claim w) = config life.ce p corr (flags all_or_none false start) (on_mastership (sets components.epoch (u32_bytes w) ∷ []) ∷ [])
 request_of life p corr (Sot x ps sc) = config life.ce p corr (flags all_or_none true start) (on_mastership (sets components.opening (opening_bytes x ps sc) ∷ []) ∷ [])
-request_of life p corr (Mot x i) = config life.ce p corr (flags all_or_none true middle) (on_mastership (sets components.subject (subject_bytes x) ∷ []) ∷ change_at life.plans x p i)
+request_of life p corr (Mot x i) = config life.ce p corr (flags all_or_none true middle) (of_transaction x (change_at life.plans x p i))
 request_of life p corr (Eot x) = config life.ce p corr (flags all_or_none true end) (on_mastership (sets components.subject (subject_bytes x) ∷ oper.Commit ∷ []) ∷ [])
 request_of life p corr (Trcomp x) = config life.ce p corr (flags all_or_none true end) (on_mastership (sets components.subject (subject_bytes x) ∷ oper.Trcomp ∷ []) ∷ [])
 request_of life p corr (Abt x) = config life.ce p corr (flags all_or_none true abort) (on_mastership (sets components.subject (subject_bytes x) ∷ []) ∷ [])

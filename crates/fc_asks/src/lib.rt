@@ -4,16 +4,14 @@
 
 mod asks;
 mod codes;
-mod components;
 mod holdings;
 mod life;
-mod plan;
 mod queries;
 mod requests;
 
 pub use asks::{Asks, Question};
 pub use codes::read_code;
+pub use fc_plans::{Change, Part, TxnPlan};
 pub use life::Life;
-pub use plan::{Change, Part, TxnPlan};
 pub use queries::{HeldAnswer, RecordAnswer, read_held, read_record};
 pub use requests::request;

@@ -4,8 +4,8 @@ ghost use Rattle.std.specs.Option.{option_copied};
 ghost use Rattle.fc_asks.specs.Plans.{changes_of, changes_in, numbered, change_at, selects_of};
 ghost use Rattle.fc_asks.specs.Tables.{found};
 
-use crate::plan::{Change, Part, TxnPlan};
 use fc_base::{CeId, Epoch, FeId, List, TxnId};
+use fc_plans::{Change, Part, TxnPlan};
 use std::alloc::Global;
 
 /// What stays with one life of a control element, from its start to its stop, whatever it hears.
@@ -53,7 +53,7 @@ impl Life {
         ensures { selects_of (option_copied result) ≡ change_at self.now.plans txn element number }
     {
         let plan = self.plans.get((txn.number as usize).saturating_sub(1))?;
-        let changes = changes_for(element, plan.parts.as_slice());
+        let changes = changes_for(element, plan.parts());
         changes.get((number as usize).saturating_sub(1))
     }
 

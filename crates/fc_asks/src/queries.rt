@@ -8,11 +8,11 @@ ghost use Rattle.fc_protocol.specs.Messages.{Ask, Ask_record, Stamp};
 ghost use Rattle.fc_protocol.specs.declared.states.Seen.TheVariants.{Absent};
 ghost use Rattle.fc_asks.specs.Queries as spec;
 
-use crate::components::{EPOCH, HELD, TRANSACTION_KEY, TRANSACTIONS};
 use crate::holdings::{read_entry, read_held_list, seen_in};
 use fc_base::{Code, List, Memory, TxnId};
 use fc_lfbs::mastership_types;
 use fc_path::{Body, Leaf, OperKind, Select, Step};
+use fc_plans::{EPOCH, HELD, TRANSACTION_KEY, TRANSACTIONS};
 use fc_protocol::{Seen, TxnEntry};
 use fc_types::{MASTERSHIP, Ty};
 use fc_wire::read_u32;

@@ -4,20 +4,23 @@ ghost use Rattle.std.specs.Option.{option_copied};
 ghost use Rattle.fc_wire.specs.Bytes.{u32_bytes};
 ghost use Rattle.fc_protocol.specs.Messages.{correlator};
 ghost use Rattle.fc_path.specs.declared.path.Body.TheVariants.{Nothing};
-ghost use Rattle.fc_asks.specs.Components as components;
+ghost use Rattle.fc_plans.specs.Components as components;
+ghost use Rattle.fc_plans.specs.Mastership as places;
+ghost use Rattle.fc_plans.specs.Mastership.{of_transaction};
 ghost use Rattle.fc_asks.specs.Requests as spec;
 ghost use Rattle.fc_asks.specs.Bodies.{body_of};
 ghost use Rattle.fc_asks.specs.Plans.{selects_of, change_at};
 ghost use Rattle.fc_asks.specs.Tables.{found};
 
 use crate::asks::Asks;
-use crate::components::{EPOCH, FLOOR, HELD, OPENING, SUBJECT, TRANSACTION_KEY, TRANSACTIONS};
 use crate::life::Life;
-use crate::plan::Change;
 use fc_base::{CeId, Duplicate, FeId, List, Memory, Octets, TxnId};
 use fc_msg::{Message, MsgBody};
 use fc_path::{Body, Key, Oper, OperKind, PathData, Select};
-use fc_types::MASTERSHIP;
+use fc_plans::{
+    Change, EPOCH, FLOOR, HELD, OPENING, SUBJECT, TRANSACTION_KEY, TRANSACTIONS, on_mastership,
+    one, path, push_selects, put_number, put_subject, set, set_selects, subject, with_subject,
+};
 use fc_wire::Flags;
 use std::alloc::Global;
 
@@ -49,30 +52,6 @@ fn flags(em: u8, at: bool, tp: u8) -> Flags
     }
 }
 
-// Appends a number of four bytes.
-fn put(bytes: &mut Vec<u8>, number: u32) -> Result<(), Memory>
-    ensures { OnOk result (bytes.new.items ≡ bytes.old.items ++ u32_bytes number) }
-{
-    bytes.extend_from_slice(&number.to_be_bytes())?;
-    Ok(())
-}
-
-// Appends a subject.
-fn put_subject(bytes: &mut Vec<u8>, txn: TxnId) -> Result<(), Memory>
-    ensures { OnOk result (bytes.new.items ≡ bytes.old.items ++ spec.subject_bytes txn) }
-{
-    put(bytes, txn.epoch.get())?;
-    put(bytes, txn.number)
-}
-
-fn subject(alloc: Global, txn: TxnId) -> Result<Octets, Memory>
-    ensures { IfOk result (λ o. o ≡ spec.subject_bytes txn) }
-{
-    let mut bytes = Vec::new(alloc);
-    put_subject(&mut bytes, txn)?;
-    Ok(Octets::from_vec(bytes))
-}
-
 // Appends the head of a FULLDATA (type 0112) whose value has so many bytes. The length is two bytes: participants are at most 64 and
 // instances at most 4,096, so that it never passes them.
 fn put_head(bytes: &mut Vec<u8>, len: usize) -> Result<(), Memory>
@@ -84,45 +63,13 @@ fn put_head(bytes: &mut Vec<u8>, len: usize) -> Result<(), Memory>
     Ok(())
 }
 
-fn one<T: Drop>(alloc: Global, item: T) -> Result<List<T>, Memory>
-    ensures { IfOk result (λ items. items ≡ item ∷ []) }
-{
-    let mut items = List::new(alloc);
-    items.push(item)?;
-    Ok(items)
-}
-
-fn path(alloc: Global, id: u32, key: Option<Key>, body: Body) -> Result<PathData, Memory>
-    ensures { IfOk result (λ p. p ≡ spec.path (id ∷ []) key body) }
-{
-    let ids = one(alloc, id)?;
-    Ok(PathData { ids, key, body })
-}
-
-fn set(alloc: Global, id: u32, bytes: Octets) -> Result<Oper, Memory>
-    ensures { IfOk result (λ o. o ≡ spec.sets id bytes) }
-{
-    let paths = one(alloc, path(alloc, id, None, Body::Full(bytes))?)?;
-    Ok(Oper::Paths(OperKind::Set, paths))
-}
-
-fn on_mastership(opers: List<Oper>) -> Select
-    ensures { result ≡ spec.on_mastership opers }
-{
-    Select {
-        class: MASTERSHIP,
-        instance: 1,
-        opers,
-    }
-}
-
 // Appends the entries of an array of these numbers.
 fn put_numbers(bytes: &mut Vec<u8>, ids: &[FeId]) -> Result<(), Memory>
     ensures { OnOk result (bytes.new.items ≡ bytes.old.items ++ spec.numbers_from 1 ids.now) }
 {
     for at in 0..ids.len() {
-        put(bytes, ((at + 1) % 4_294_967_296) as u32)?;
-        put(bytes, ids[at].get())?;
+        put_number(bytes, ((at + 1) % 4_294_967_296) as u32)?;
+        put_number(bytes, ids[at].get())?;
     }
     Ok(())
 }
@@ -132,9 +79,9 @@ fn put_instances(bytes: &mut Vec<u8>, scope: &[(u32, u32)]) -> Result<(), Memory
     ensures { OnOk result (bytes.new.items ≡ bytes.old.items ++ spec.instances_from 1 scope.now) }
 {
     for at in 0..scope.len() {
-        put(bytes, ((at + 1) % 4_294_967_296) as u32)?;
-        put(bytes, scope[at].0)?;
-        put(bytes, scope[at].1)?;
+        put_number(bytes, ((at + 1) % 4_294_967_296) as u32)?;
+        put_number(bytes, scope[at].0)?;
+        put_number(bytes, scope[at].1)?;
     }
     Ok(())
 }
@@ -223,31 +170,13 @@ fn config(life: &Life, element: FeId, count: u32, flags: Flags, selects: List<Se
     message(life, element, count, flags, MsgBody::Config(selects))
 }
 
-// The one select of Mastership with one SET.
-fn set_selects(alloc: Global, id: u32, bytes: Octets) -> Result<List<Select>, Memory>
-    ensures { IfOk result (λ ss. ss ≡ spec.on_mastership (spec.sets id bytes ∷ []) ∷ []) }
-{
-    let opers = one(alloc, set(alloc, id, bytes)?)?;
-    one(alloc, on_mastership(opers))
-}
-
 // The one select of Mastership with the subject and one operation behind it.
 fn ended_selects(alloc: Global, txn: TxnId, last: Oper) -> Result<List<Select>, Memory>
-    ensures { IfOk result (λ ss. ss ≡ spec.on_mastership (spec.sets components.subject (spec.subject_bytes txn) ∷ last ∷ []) ∷ []) }
+    ensures { IfOk result (λ ss. ss ≡ places.on_mastership (places.sets components.subject (places.subject_bytes txn) ∷ last ∷ []) ∷ []) }
 {
     let mut opers = one(alloc, set(alloc, SUBJECT, subject(alloc, txn)?)?)?;
     opers.push(last)?;
     one(alloc, on_mastership(opers))
-}
-
-// Copies of selects, behind others.
-fn push_selects(selects: &mut List<Select>, more: &[Select]) -> Result<(), Memory>
-    ensures { OnOk result (selects.new ≡ selects.old ++ more.now) }
-{
-    for select in more {
-        selects.push(select.copy()?)?;
-    }
-    Ok(())
 }
 
 // The selects of a change; none where there is no change.
@@ -255,7 +184,7 @@ fn selects_in(change: Option<&Change>) -> &[Select]
     ensures { result.now ≡ selects_of (option_copied change.entry) }
 {
     match change {
-        Some(change) => change.selects.as_slice(),
+        Some(change) => change.selects(),
         None => &[],
     }
 }
@@ -266,11 +195,13 @@ fn change_selects(
     element: FeId,
     number: u32,
 ) -> Result<List<Select>, Memory>
-    ensures { IfOk result (λ ss. ss ≡ spec.on_mastership (spec.sets components.subject (spec.subject_bytes txn) ∷ []) ∷ change_at life.now.plans txn element number) }
+    ensures { IfOk result (λ ss. ss ≡ of_transaction txn (change_at life.now.plans txn element number)) }
 {
-    let mut selects = set_selects(life.alloc, SUBJECT, subject(life.alloc, txn)?)?;
-    push_selects(&mut selects, selects_in(life.change(txn, element, number)))?;
-    Ok(selects)
+    with_subject(
+        life.alloc,
+        txn,
+        selects_in(life.change(txn, element, number)),
+    )
 }
 
 fn plain_selects(life: &Life, element: FeId) -> Result<List<Select>, Memory>
@@ -283,10 +214,10 @@ fn plain_selects(life: &Life, element: FeId) -> Result<List<Select>, Memory>
 
 // The selects of a claim: the epoch of the life.
 fn claim_selects(life: &Life) -> Result<List<Select>, Memory>
-    ensures { IfOk result (λ selects. selects ≡ spec.on_mastership (spec.sets components.epoch (u32_bytes life.now.epoch) ∷ []) ∷ []) }
+    ensures { IfOk result (λ selects. selects ≡ places.on_mastership (places.sets components.epoch (u32_bytes life.now.epoch) ∷ []) ∷ []) }
 {
     let mut bytes = Vec::new(life.alloc);
-    put(&mut bytes, life.epoch.get())?;
+    put_number(&mut bytes, life.epoch.get())?;
     set_selects(life.alloc, EPOCH, Octets::from_vec(bytes))
 }
 

@@ -3,5 +3,5 @@ use Rattle.fc_asks.proofs.Numbered.{numbers_more}
 use Rattle.fc_asks.proofs.requests.put_numbers.Goals as goal
 
 pub loop-at-preserved : goal.loop-at-preserved
-loop-at-preserved c = numbers_more c.loop-at.bytes.items c.put.new.bytes.items c.put-in-loop-at.new.bytes.items _ c.args.ids.now c.loop-at.at c.get.result c.index-ids-at.result
-    (omega arith) (c.get.ensures.same ∙ c.index-ids-at.is) c.in_ok-put.ensures c.in_ok-put-2.ensures c.loop-at.invariant
+loop-at-preserved c = numbers_more c.loop-at.bytes.items c.put_number.new.bytes.items c.put_number-in-loop-at.new.bytes.items _ c.args.ids.now c.loop-at.at c.get.result c.index-ids-at.result
+    (omega arith) (c.get.ensures.same ∙ c.index-ids-at.is) c.in_ok-put_number.ensures c.in_ok-put_number-2.ensures c.loop-at.invariant

@@ -1,0 +1,4 @@
+pub mod Components
+pub mod Mastership
+pub mod Changes
+pub mod Plans
