@@ -1,0 +1,4 @@
+pub mod Keyed
+pub mod Own
+pub mod Shapes
+pub mod Tells
