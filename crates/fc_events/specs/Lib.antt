@@ -1,0 +1,6 @@
+pub mod Events
+pub mod Operations
+pub mod Properties
+pub mod Reports
+pub mod Setting
+pub mod Subscribing
