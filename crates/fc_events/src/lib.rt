@@ -13,6 +13,10 @@ mod reports;
 mod setting;
 mod subscriptions;
 mod targets;
+mod telling;
 
-pub use laws::{a_second_report_tells_nothing, held_events_tell_nothing};
+pub use laws::{
+    a_second_report_tells_nothing, held_events_tell_nothing, notices_never_fall,
+    registered_events_rise,
+};
 pub use subscriptions::{EventPlace, Notice, Subscription, Subscriptions};
