@@ -1,10 +1,2 @@
-pub mod Tallies
-pub mod Placing
-pub mod Dues
-pub mod Seating
-pub mod SendingAll
-pub mod Laws
-pub mod Replying
-pub mod Finishing
-pub mod Deposing
-pub mod Asking
+pub mod Unknown
+pub mod Changing

@@ -1,7 +1,3 @@
-pub mod Scopes
-pub mod Seats
-pub mod JobViews
-pub mod Sending
-pub mod Effects
 pub mod Masters
-pub mod Answers
+pub mod Refusals
+pub mod Steps

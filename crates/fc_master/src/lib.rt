@@ -2,24 +2,18 @@
 //! transactions to their end at all of them, and recovers those that it finds.
 #![tactic(auto)]
 
-mod answers;
-mod deciding;
-mod effects;
-mod job;
+mod calls;
+mod faults;
+mod finishing;
+mod input;
 mod master;
-mod needs;
-mod progress;
-mod recovery;
-mod replies;
+mod opening;
+mod refusals;
 mod resending;
-mod seat;
-mod sending;
 mod stepping;
-mod table;
 
-pub use deciding::decide;
+pub use faults::GiveUpFault;
 pub use fc_asks::{Change, Life, Part, TxnPlan};
-pub use fc_protocol::{Answer, Decision, Seen};
-pub use job::Job;
+pub use fc_jobs::{Answer, CeOut, Decision, Job, Seen, decide};
+pub use input::CeIn;
 pub use master::Master;
-pub use sending::CeOut;

@@ -2,18 +2,16 @@
 ghost use Rattle.std.specs.Prelude.{◌≡◌, ℕ, IfOk};
 ghost use Rattle.fc_protocol.specs.MasterMachine.{again};
 ghost use Rattle.fc_master.specs.Masters.{core_of};
-ghost use Rattle.fc_master.specs.Seats.{peer_of};
-ghost use Rattle.fc_master.specs.Sending.{spelled};
+ghost use Rattle.fc_jobs.specs.Seats.{peer_of};
+ghost use Rattle.fc_jobs.specs.Sending.{spelled};
 
 use crate::master::Master;
-use crate::replies::place_of;
-use crate::seat::Seat;
-use crate::sending::CeOut;
 use fc_asks::{Life, request};
 use fc_base::{FeId, List, Memory};
+use fc_jobs::{CeOut, Seat, place_of};
 
 // What waits at an element, once more.
-fn waiting_again(life: &Life, seat: &Seat) -> Result<List<CeOut>, Memory>
+pub(crate) fn waiting_again(life: &Life, seat: &Seat) -> Result<List<CeOut>, Memory>
     ensures { IfOk result (λ outs. (k : ℕ) → outs ≡ spelled life.now (again k seat.now.element (peer_of life.now.epoch seat.now).waits)) }
 {
     let mut outs = List::new(life.alloc);

@@ -1,21 +1,138 @@
 // What a master does with what comes.
-ghost use Rattle.std.specs.Prelude.{◌≡◌, ℕ, IfOk, OnOk, OnErr};
-ghost use Rattle.fc_protocol.specs.Messages.{stamp, Reply};
-ghost use Rattle.fc_protocol.specs.MasterMachine.{finish, heard};
+ghost use Rattle.std.specs.Prelude.{◌≡◌, ◌∷◌, ◌++◌, ℕ, map, IfOk, OnOk, OnErr};
+ghost use Rattle.fc_protocol.specs.Jobs.{Job as Work, decided_job};
+ghost use Rattle.fc_protocol.specs.Messages.{stamp, Reply, Setup};
+ghost use Rattle.fc_protocol.specs.MasterMachine.{again, finish, heard};
 ghost use Rattle.fc_asks.specs.Codes.{response_code};
-ghost use Rattle.fc_master.specs.Answers.{answered};
-ghost use Rattle.fc_master.specs.Masters.{core_of};
-ghost use Rattle.fc_master.specs.Sending.{spelled};
+ghost use Rattle.fc_jobs.specs.Answers.{answered};
+ghost use Rattle.fc_jobs.specs.JobViews.{jobs_of};
+ghost use Rattle.fc_jobs.specs.Seats.{peer_of};
+ghost use Rattle.fc_jobs.specs.Sending.{spelled};
+ghost use Rattle.fc_master.specs.Masters.{begun_of, core_of};
+ghost use Rattle.fc_master.specs.Steps as spec;
+ghost use Rattle.fc_master.specs.Steps.{said, stepped};
 
-use crate::answers::{Heard, after_answer};
+use crate::finishing::joined;
+use crate::input::CeIn;
 use crate::master::Master;
-use crate::replies::{Next, after_reply};
-use crate::sending::{CeOut, send_due};
-use fc_asks::read_code;
-use fc_base::{FeId, List, Memory};
+use crate::resending::waiting_again;
+use fc_asks::{Life, read_code};
+use fc_base::{Duplicate, FeId, List, Memory};
+use fc_jobs::{CeOut, Heard, Seat, after_answer, after_reply, decided, place_of};
+use fc_msg::{Message, MsgBody};
 use fc_path::Select;
+use fc_wire::Flags;
+
+// Nothing is wanted.
+fn quiet() -> Flags
+    ensures { result ≡ spec.quiet }
+{
+    Flags {
+        ack: 0,
+        pri: 0,
+        em: 0,
+        at: false,
+        tp: 0,
+    }
+}
+
+// An association is granted, with the outcome 0, or not.
+fn granted(life: &Life, element: FeId, corr: u64, outcome: u32) -> CeOut
+    ensures { result ≡ spec.granted life.now element corr outcome }
+{
+    CeOut {
+        to: element,
+        message: Message {
+            source: life.ce.get(),
+            dest: element.get(),
+            corr,
+            flags: quiet(),
+            body: MsgBody::SetupResponse(outcome),
+        },
+    }
+}
+
+// A heartbeat that asks for an answer is answered.
+fn beaten(life: &Life, element: FeId, message: &Message) -> Result<List<CeOut>, Memory>
+    ensures { IfOk result (λ outs. outs ≡ spec.beaten element message.now) }
+{
+    let mut outs = List::new(life.alloc);
+    if message.flags.ack == 3 {
+        outs.push(CeOut {
+            to: element,
+            message: Message {
+                source: message.dest,
+                dest: message.source,
+                corr: message.corr,
+                flags: quiet(),
+                body: MsgBody::Heartbeat,
+            },
+        })?;
+    }
+    Ok(outs)
+}
+
+// The response to a wish for an association, and then what waits at the element again.
+fn welcome(life: &Life, seat: &Seat, corr: u64) -> Result<List<CeOut>, Memory>
+    ensures { IfOk result (λ outs. (k : ℕ) → outs ≡ spec.granted life.now seat.now.element corr 0 ∷ spelled life.now (again k seat.now.element (peer_of life.now.epoch seat.now).waits)) }
+{
+    let mut outs = List::new(life.alloc);
+    outs.push(granted(life, seat.element, corr, 0))?;
+    joined(outs, waiting_again(life, seat)?)
+}
 
 impl Master {
+    // The elements, the jobs and the master as they are, each job decided where it can be.
+    fn unchanged(&self) -> Result<Heard, Memory>
+        ensures seats { IfOk result (λ h. h.seats ≡ self.now.seats) }
+        ensures jobs { IfOk result (λ h. jobs_of h.jobs ≡ map (λ (j : Work). decided_job self.now.life.epoch j.decision j) (jobs_of self.now.jobs)) }
+        ensures deposed { IfOk result (λ h. h.deposed ≡ self.now.deposed) }
+    {
+        let seats = self.seats.copy()?;
+        let jobs = decided(self.life.alloc, self.life.epoch, self.jobs.as_slice())?;
+        Ok(Heard {
+            seats,
+            jobs,
+            deposed: self.deposed,
+        })
+    }
+
+    // Nothing came but time, or what a master does not listen to; these messages are sent first.
+    fn wait(&mut self, first: List<CeOut>) -> Result<List<CeOut>, Memory>
+        ensures core { OnOk result ((k : ℕ) → core_of self.new ≡ (finish k (core_of self.old)).master) }
+        ensures outs { IfOk result (λ outs. (k : ℕ) → outs ≡ first ++ spelled self.old.life (finish k (core_of self.old)).says) }
+        ensures life { self.new.life ≡ self.old.life }
+        ensures begun { begun_of self.new ≡ begun_of self.old }
+        ensures err { OnErr result (self.new ≡ self.old) }
+    {
+        let heard = self.unchanged()?;
+        self.finish(heard, first)
+    }
+
+    // An element wishes to be associated.
+    fn greeted(&mut self, element: FeId, corr: u64) -> Result<List<CeOut>, Memory>
+        ensures core { OnOk result ((k : ℕ) → core_of self.new ≡ (finish k (heard (core_of self.old) element Setup)).master) }
+        ensures outs { IfOk result (λ outs. (k : ℕ) → outs ≡ spec.greeting self.old.life (core_of self.old) element corr ++ spelled self.old.life (finish k (heard (core_of self.old) element Setup)).says) }
+        ensures life { self.new.life ≡ self.old.life }
+        ensures begun { begun_of self.new ≡ begun_of self.old }
+        ensures err { OnErr result (self.new ≡ self.old) }
+    {
+        let mut heard = self.unchanged()?;
+        match place_of(element, self.seats.as_slice()) {
+            None => {
+                let mut first = List::new(self.life.alloc);
+                first.push(granted(&self.life, element, corr, 1))?;
+                self.finish(heard, first)
+            }
+            Some(at) => {
+                let seat = &self.seats.as_slice()[at];
+                let first = welcome(&self.life, seat, corr)?;
+                heard.seats.set(at, seat.after_setup()?);
+                self.finish(heard, first)
+            }
+        }
+    }
+
     // A response to a Config came from an element.
     fn replied(
         &mut self,
@@ -26,22 +143,18 @@ impl Master {
         ensures core { OnOk result ((k : ℕ) → core_of self.new ≡ (finish k (heard (core_of self.old) element (Reply (stamp corr) (response_code selects.now)))).master) }
         ensures outs { IfOk result (λ outs. (k : ℕ) → outs ≡ spelled self.old.life (finish k (heard (core_of self.old) element (Reply (stamp corr) (response_code selects.now)))).says) }
         ensures life { self.new.life ≡ self.old.life }
+        ensures begun { begun_of self.new ≡ begun_of self.old }
         ensures err { OnErr result (self.new ≡ self.old) }
     {
         let code = read_code(self.life.alloc, selects)?;
-        let next = after_reply(
-            &self.life,
-            &self.seats,
-            self.jobs.as_slice(),
-            element,
-            corr,
-            code,
-        )?;
-        let Next { mut seats, jobs } = next;
-        let outs = send_due(&self.life, &mut seats, jobs.as_slice(), self.deposed)?;
-        self.seats = seats;
-        self.jobs = jobs;
-        Ok(outs)
+        let jobs = self.jobs.as_slice();
+        let next = after_reply(&self.life, &self.seats, jobs, element, corr, code)?;
+        let heard = Heard {
+            seats: next.seats,
+            jobs: next.jobs,
+            deposed: self.deposed,
+        };
+        self.finish(heard, List::new(self.life.alloc))
     }
 
     // An answer to a Query came from an element.
@@ -54,6 +167,7 @@ impl Master {
         ensures core { OnOk result ((k : ℕ) → core_of self.new ≡ (finish k (answered (core_of self.old) element corr selects.now)).master) }
         ensures outs { IfOk result (λ outs. (k : ℕ) → outs ≡ spelled self.old.life (finish k (answered (core_of self.old) element corr selects.now)).says) }
         ensures life { self.new.life ≡ self.old.life }
+        ensures begun { begun_of self.new ≡ begun_of self.old }
         ensures err { OnErr result (self.new ≡ self.old) }
     {
         let heard = after_answer(
@@ -65,15 +179,40 @@ impl Master {
             corr,
             selects,
         )?;
-        let Heard {
-            mut seats,
-            jobs,
-            deposed,
-        } = heard;
-        let outs = send_due(&self.life, &mut seats, jobs.as_slice(), deposed)?;
-        self.seats = seats;
-        self.jobs = jobs;
-        self.deposed = deposed;
-        Ok(outs)
+        self.finish(heard, List::new(self.life.alloc))
+    }
+
+    /// What an input makes of the master, and what it then sends, in this order: the response to a wish for an association, and then what
+    /// waits at that element again, or the answer to a heartbeat that asks for one; then to each element, in their order, what is due
+    /// there. Refused only for want of memory; nothing has changed then.
+    pub fn step(&mut self, input: CeIn) -> Result<List<CeOut>, Memory>
+        ensures core { OnOk result ((k : ℕ) → core_of self.new ≡ (stepped k (core_of self.old) input).master) }
+        ensures outs { IfOk result (λ outs. (k : ℕ) → outs ≡ said self.old.life k (core_of self.old) input) }
+        ensures life { self.new.life ≡ self.old.life }
+        ensures begun { begun_of self.new ≡ begun_of self.old }
+        ensures err { OnErr result (self.new ≡ self.old) }
+    {
+        let none = List::new(self.life.alloc);
+        match input {
+            CeIn::Moment(_) => self.wait(none),
+            CeIn::Arrived(element, message) => match &message.body {
+                MsgBody::Setup(_) => self.greeted(element, message.corr),
+                MsgBody::ConfigResponse(selects) => {
+                    self.replied(element, message.corr, selects.as_slice())
+                }
+                MsgBody::QueryResponse(selects) => {
+                    self.queried(element, message.corr, selects.as_slice())
+                }
+                MsgBody::Heartbeat => {
+                    let first = beaten(&self.life, element, &message)?;
+                    self.wait(first)
+                }
+                MsgBody::SetupResponse(_) => self.wait(none),
+                MsgBody::Teardown(_) => self.wait(none),
+                MsgBody::Config(_) => self.wait(none),
+                MsgBody::Query(_) => self.wait(none),
+                MsgBody::Event(_) => self.wait(none),
+            },
+        }
     }
 }

@@ -1,0 +1,10 @@
+pub mod Tallies
+pub mod Placing
+pub mod Dues
+pub mod Seating
+pub mod SendingAll
+pub mod Laws
+pub mod Replying
+pub mod Finishing
+pub mod Deposing
+pub mod Asking
