@@ -12,9 +12,7 @@ const MANY: &str =
 fn each_operation_has_its_own_code(rt: HostRuntime) -> Result<(), Fail> {
     let alloc = rt.alloc();
     let mut store = opened(alloc)?;
-    let wanted = [
-        0x00, 0x05, 0x07, 0x08, 0x14, 0x15, 0x15, 0x12, 0x12, 0x00,
-    ];
+    let wanted = [0x00, 0x05, 0x07, 0x08, 0x14, 0x15, 0x15, 0x12, 0x12, 0x00];
     assert!(rt; answers(alloc, &mut store, Mode::Continue, MANY, &wanted)?);
     assert!(rt; holds(alloc, &store, 1, &[1], &[0, 0, 0, 5])?);
     assert!(rt; holds(alloc, &store, 2, &[3], &[0, 0, 0, 7])?);
@@ -25,9 +23,7 @@ fn each_operation_has_its_own_code(rt: HostRuntime) -> Result<(), Fail> {
 fn what_follows_a_failure_is_not_done(rt: HostRuntime) -> Result<(), Fail> {
     let alloc = rt.alloc();
     let mut store = opened(alloc)?;
-    let wanted = [
-        0x00, 0x05, 0xFF, 0xFF, 0xFF, 0xFF, 0xFF, 0xFF, 0xFF, 0xFF,
-    ];
+    let wanted = [0x00, 0x05, 0xFF, 0xFF, 0xFF, 0xFF, 0xFF, 0xFF, 0xFF, 0xFF];
     assert!(rt; answers(alloc, &mut store, Mode::UntilFailure, MANY, &wanted)?);
     assert!(rt; holds(alloc, &store, 1, &[1], &[0, 0, 0, 5])?);
     assert!(rt; holds(alloc, &store, 2, &[3], &[0, 0, 0, 0])?);
@@ -38,9 +34,7 @@ fn what_follows_a_failure_is_not_done(rt: HostRuntime) -> Result<(), Fail> {
 fn one_failure_undoes_all(rt: HostRuntime) -> Result<(), Fail> {
     let alloc = rt.alloc();
     let mut store = opened(alloc)?;
-    let wanted = [
-        0xFF, 0x05, 0xFF, 0xFF, 0xFF, 0xFF, 0xFF, 0xFF, 0xFF, 0xFF,
-    ];
+    let wanted = [0xFF, 0x05, 0xFF, 0xFF, 0xFF, 0xFF, 0xFF, 0xFF, 0xFF, 0xFF];
     assert!(rt; answers(alloc, &mut store, Mode::AllOrNone, MANY, &wanted)?);
     assert!(rt; holds(alloc, &store, 1, &[1], &[0, 0, 0, 0])?);
     Ok(())
@@ -75,7 +69,15 @@ const TWO: &str =
 fn a_mark_around_them_stands(rt: HostRuntime) -> Result<(), Fail> {
     let alloc = rt.alloc();
     let mut store = opened(alloc)?;
-    assert!(rt; answers(alloc, &mut store, Mode::Continue, MANY, &[0x00, 0x05, 0x07, 0x08, 0x14, 0x15, 0x15, 0x12, 0x12, 0x00])?);
+    assert!(rt;
+        answers(
+            alloc,
+            &mut store,
+            Mode::Continue,
+            MANY,
+            &[0x00, 0x05, 0x07, 0x08, 0x14, 0x15, 0x15, 0x12, 0x12, 0x00]
+        )?
+    );
     let mark = store.mark_for(&[(4097, 1)])?;
     assert!(rt; answers(alloc, &mut store, Mode::AllOrNone, TWO, &[0x00, 0x00])?);
     assert!(rt; holds(alloc, &store, 1, &[1], &[0, 0, 0, 6])?);

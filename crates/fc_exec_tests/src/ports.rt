@@ -18,7 +18,8 @@ const FASTER: [u8; 13] = [
     0x01, 0x12, 0x00, 0x08, 0x65, 0x74, 0x68, 0x30, 0x00, 0x00, 0x00, 0xC8, 0x01,
 ];
 
-const SET_ETH0: &str = "lfb 00001001 00000001\n  SET\n    path 4 1\n      full 01120008657468300000006401\n";
+const SET_ETH0: &str =
+    "lfb 00001001 00000001\n  SET\n    path 4 1\n      full 01120008657468300000006401\n";
 
 // What stands in speed and queue.
 fn stand(alloc: Global, store: &Store, speed: u8, queue: u8) -> Result<bool, OpFault> {
@@ -31,7 +32,15 @@ fn stand(alloc: Global, store: &Store, speed: u8, queue: u8) -> Result<bool, OpF
 fn all_or_none_restores(rt: HostRuntime) -> Result<(), Fail> {
     let alloc = rt.alloc();
     let mut store = opened(alloc)?;
-    assert!(rt; answers(alloc, &mut store, Mode::AllOrNone, THREE, &[0xFF, 0x0E, 0xFF])?);
+    assert!(rt;
+        answers(
+            alloc,
+            &mut store,
+            Mode::AllOrNone,
+            THREE,
+            &[0xFF, 0x0E, 0xFF]
+        )?
+    );
     assert!(rt; stand(alloc, &store, 0, 0)?);
     Ok(())
 }
@@ -40,7 +49,15 @@ fn all_or_none_restores(rt: HostRuntime) -> Result<(), Fail> {
 fn until_failure_stops(rt: HostRuntime) -> Result<(), Fail> {
     let alloc = rt.alloc();
     let mut store = opened(alloc)?;
-    assert!(rt; answers(alloc, &mut store, Mode::UntilFailure, THREE, &[0x00, 0x0E, 0xFF])?);
+    assert!(rt;
+        answers(
+            alloc,
+            &mut store,
+            Mode::UntilFailure,
+            THREE,
+            &[0x00, 0x0E, 0xFF]
+        )?
+    );
     assert!(rt; stand(alloc, &store, 5, 0)?);
     Ok(())
 }
@@ -49,7 +66,15 @@ fn until_failure_stops(rt: HostRuntime) -> Result<(), Fail> {
 fn continue_does_each(rt: HostRuntime) -> Result<(), Fail> {
     let alloc = rt.alloc();
     let mut store = opened(alloc)?;
-    assert!(rt; answers(alloc, &mut store, Mode::Continue, THREE, &[0x00, 0x0E, 0x00])?);
+    assert!(rt;
+        answers(
+            alloc,
+            &mut store,
+            Mode::Continue,
+            THREE,
+            &[0x00, 0x0E, 0x00]
+        )?
+    );
     assert!(rt; stand(alloc, &store, 5, 7)?);
     Ok(())
 }
@@ -67,7 +92,8 @@ fn entries_are_put(rt: HostRuntime) -> Result<(), Fail> {
     let mut store = opened(alloc)?;
     assert!(rt; answers(alloc, &mut store, Mode::AllOrNone, SET_ETH0, &[0x00])?);
     assert!(rt; holds(alloc, &store, 1, &[4, 1], &ETH0)?);
-    let again = "lfb 00001001 00000001\n  SET\n    path 4 2\n      full 01120008657468300000006401\n";
+    let again =
+        "lfb 00001001 00000001\n  SET\n    path 4 2\n      full 01120008657468300000006401\n";
     assert!(rt; answers(alloc, &mut store, Mode::AllOrNone, again, &[0x0A])?);
     assert_eq!(rt; refusal(alloc, &store, &[4, 2])?, Some(Code::NOT_FOUND));
     Ok(())
@@ -80,7 +106,8 @@ fn entries_are_merged(rt: HostRuntime) -> Result<(), Fail> {
     let once = "lfb 00001001 00000001\n  SET\n    path 4 1\n      sparse\n        ilv 2 000000C8\n";
     assert!(rt; answers(alloc, &mut store, Mode::AllOrNone, once, &[0x00])?);
     assert!(rt; holds(alloc, &store, 1, &[4, 1], &FASTER)?);
-    let twice = "lfb 00001001 00000001\n  SET\n    path 4 1\n      sparse\n        ilv 2 00000064\n        ilv 2 00000064\n";
+    let twice =
+        "lfb 00001001 00000001\n  SET\n    path 4 1\n      sparse\n        ilv 2 00000064\n        ilv 2 00000064\n";
     assert!(rt; answers(alloc, &mut store, Mode::AllOrNone, twice, &[0x13])?);
     assert!(rt; holds(alloc, &store, 1, &[4, 1], &FASTER)?);
     Ok(())
@@ -90,7 +117,8 @@ fn entries_are_merged(rt: HostRuntime) -> Result<(), Fail> {
 fn entries_are_deleted(rt: HostRuntime) -> Result<(), Fail> {
     let alloc = rt.alloc();
     let mut store = with_eth0(alloc)?;
-    let text = "lfb 00001001 00000001\n  DEL\n    path 4 1\n  SET\n    path 4 2\n      full 01120008657468300000006401\n";
+    let text =
+        "lfb 00001001 00000001\n  DEL\n    path 4 1\n  SET\n    path 4 2\n      full 01120008657468300000006401\n";
     assert!(rt; answers(alloc, &mut store, Mode::AllOrNone, text, &[0x00, 0x00])?);
     assert_eq!(rt; refusal(alloc, &store, &[4, 1])?, Some(Code::NOT_FOUND));
     assert!(rt; holds(alloc, &store, 1, &[4, 2], &ETH0)?);
