@@ -1,4 +1,4 @@
--- How a notice is told: RFC 5810, section 7.1.6, on REPORT; and the event that the primary control element is gone: RFC 7121, section 3;
+-- How a notice is told: RFC 5810, section 7.1.6, on REPORT; and the event that the primary control element is gone: RFC 5810, appendix B;
 -- its value, and who is told, is this profile's own.
 use Rattle.std.specs.Prelude.{ℕ, ◌==◌, List, [], ◌∷◌, find, Option, Some, None, if◌then◌else◌}
 use Rattle.fc_path.specs.declared.oper.Oper.TheVariants as oper
