@@ -71,7 +71,9 @@ fn around(
     let mut codes = Vec::new(alloc);
     codes.resize(before.0, before.1)?;
     codes.push(at)?;
-    codes.resize(before.0 + 1 + after.0, after.1)?;
+    for _ in 0..after.0 {
+        codes.push(after.1)?;
+    }
     Ok(codes)
 }
 
