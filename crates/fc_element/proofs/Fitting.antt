@@ -1,12 +1,26 @@
 -- What an element sends can be encoded.
-use Rattle.std.proofs.Common.{◌≡◌, ℕ, ◌&&◌, ◌==◌, Bool, true, false, if◌then◌else◌, List, [], ◌∷◌, map, refl, subst, sym, Result, Ok, Err}
-use Rattle.std.specs.List.{AllByRecursion}
+use Rattle.std.proofs.Common.{◌≡◌, ℕ, ◌&&◌, ◌==◌, not, nat_lt, Bool, true, false, cond, if◌then◌else◌, List, [], ◌∷◌, ◌<◌, length, map, refl, arith, subst, sym, ap, ◌∙◌, Option, Some, None, Result, Ok, Err}
+use Rattle.std.specs.List.{AllByRecursion, list_all}
 use Rattle.std.specs.Prelude.{IfOk}
 use Rattle.std.specs.FinMap.{contains_key, entries}
 use Rattle.fc_base.specs.declared.faults.Memory.{Memory}
 use Rattle.fc_assoc.specs.Associations.{AssociationMap}
 use Rattle.fc_assoc.specs.declared.heard.Heard.{Heard}
-use Rattle.fc_msg.specs.Messages.{message_fits}
+use Rattle.fc_exec.specs.Operations.{executed}
+use Rattle.fc_lfbs.specs.LiveValues.{told_value}
+use Rattle.fc_modes.specs.declared.mode.Mode.{Mode}
+use Rattle.fc_msg.specs.Messages.{IsProper, ProperMsgBody, ProperSelects, message_fits}
+use Rattle.fc_ops.specs.Answering.{answered, is_queried, response_fits}
+use Rattle.fc_ops.specs.Asking.{contents_of, questions}
+use Rattle.fc_ops.proofs.Counts.{query_counts}
+use Rattle.fc_ops.proofs.Responses.{answers_fit}
+use Rattle.fc_path.specs.Canon.{joined, select_written}
+use Rattle.fc_path.specs.Results.{results_fit}
+use Rattle.fc_path.specs.declared.oper.Select.{Select}
+use Rattle.fc_reply.specs.Counting.{each_gets}
+use Rattle.fc_reply.specs.Answered.{answered_selects}
+use Rattle.fc_reply.specs.Replies.{reply}
+use Rattle.fc_reply.proofs.Fitting.{answered_fit, reply_fits}
 use Rattle.fc_msg.specs.declared.message.Message.{Message}
 use Rattle.fc_msg.specs.declared.message.MsgBody.{MsgBody}
 use Rattle.fc_msg.specs.declared.message.MsgBody.TheVariants.{Setup, SetupResponse, Teardown, Config, ConfigResponse, Query, QueryResponse, Event, Heartbeat}
@@ -14,7 +28,9 @@ use Rattle.fc_element.specs.declared.input.ElIn.{ElIn}
 use Rattle.fc_element.specs.declared.input.ElIn.TheVariants.{Opened, Arrived, Closed, Moment}
 use Rattle.fc_element.specs.declared.input.Out.{Out}
 use Rattle.fc_element.specs.ElementState.{ElementState}
-use Rattle.fc_element.specs.ElementMachine.{CanBeSent, Turn, answer_to, beaten, beating, beats_of, heartbeat_of, is_ce, is_due, on_body, on_message, out, setup_of, step, turn, watched, moved_on}
+use Rattle.fc_element.specs.ElementMachine.{CanBeSent, IsProperIn, Turn, all_get, answer_to, answer_with, beaten, beating, beats_of, by_order, executing, hearing, heartbeat_of, is_associated, is_ce, is_due, is_own, mode_of, moved_on, on_body, on_message, out, query_answer, query_selects, renewing, responses, setup_of, step, turn, unclaimed, watched}
+use Rattle.fc_blocks.proofs.Asked.{all_asked}
+use Rattle.fc_blocks.specs.Queries.{foreign_selects, told_selects}
 
 abbrev Fit : Turn → Type 0
 Fit t = AllByRecursion CanBeSent t.outs
@@ -38,8 +54,8 @@ beats_fit id (pair ∷ pairs) = (heartbeat_fits id pair.0, beats_fit id pairs)
 beating_fits : (s : ElementState) → Fit (beating s)
 beating_fits s = by_due (is_due s)
   where
-    by_due : (b : Bool) → Fit (if b then turn (beaten s) (beats_of s.id s.associations) else turn s [])
-    by_due true = beats_fit s.id (entries s.associations)
+    by_due : (b : Bool) → Fit (if b then turn (beaten s) (beats_of s.told.id s.associations) else turn s [])
+    by_due true = beats_fit s.told.id (entries s.associations)
     by_due false = tt
 
 answered_fits : (b : Bool) (peer : ℕ) (m : Message) → AllByRecursion CanBeSent (if b then out peer (answer_to m) ∷ [] else [])
@@ -50,33 +66,88 @@ entered_fits : (b : Bool) (s t : ElementState) → Fit (if b then turn s [] else
 entered_fits true s t = tt
 entered_fits false s t = tt
 
-body_fits : (s : ElementState) (peer : ℕ) (m : Message) (body : MsgBody) → Fit (on_body s peer m body)
-body_fits s peer m (Setup selects) = tt
-body_fits s peer m (SetupResponse result) = entered_fits (m.dest == s.id && result == 0) _ _
-body_fits s peer m (Teardown reason) = tt
-body_fits s peer m (Config selects) = tt
-body_fits s peer m (ConfigResponse selects) = tt
-body_fits s peer m (Query selects) = tt
-body_fits s peer m (QueryResponse selects) = tt
-body_fits s peer m (Event selects) = tt
-body_fits s peer m Heartbeat = answered_fits (contains_key s.associations m.source && m.flags.ack == 3) peer m
+-- ---- queries
+pub is_asked : (m : Message) (selects : List Select) → IsProper m → m.body ≡ Query selects → list_all is_queried selects ≡ true
+is_asked m selects p b = let body : ProperSelects 4 selects = subst ProperMsgBody b p.body in all_asked selects body.1
 
-message_taken_fits : (s : ElementState) (peer : ℕ) (m : Message) → Fit (on_message s peer m)
-message_taken_fits s peer m = by_sender (is_ce m.source)
+query_fits : (m : Message) (selects : List Select) → message_fits (answer_with m (QueryResponse selects)) ≡ (nat_lt (length (joined (map select_written selects)).text) 262117 && (joined (map select_written selects)).fits)
+unfolding message_fits
+query_fits m selects = refl
+
+told_fits : (s : ElementState) (m : Message) (selects : List Select) → IsProper m → m.body ≡ Query selects → results_fit selects ≡ true
+    → message_fits (answer_with m (QueryResponse (told_selects s.told s.store selects))) ≡ true
+told_fits s m selects p b f =
+    query_fits m (told_selects s.told s.store selects)
+    ∙ answers_fit selects (contents_of (told_value s.told) s.store [] (questions selects)) (is_asked m selects p b) f (query_counts (told_value s.told) s.store [] selects)
+
+foreign_fits : (m : Message) (selects : List Select) → results_fit selects ≡ true → message_fits (answer_with m (QueryResponse (foreign_selects selects))) ≡ true
+foreign_fits m selects f = query_fits m (foreign_selects selects) ∙ answered_fit selects (each_gets 4 selects) f
+
+answer_is : (s : ElementState) (m : Message) (selects : List Select) (own : Bool) → IsProper m → m.body ≡ Query selects → results_fit selects ≡ true
+    → message_fits (answer_with m (QueryResponse (cond own (told_selects s.told s.store selects) (foreign_selects selects)))) ≡ true
+answer_is s m selects true p b f = told_fits s m selects p b f
+answer_is s m selects false p b f = foreign_fits m selects f
+
+query_taken_fits : (s : ElementState) (peer : ℕ) (m : Message) (selects : List Select) (a b : Bool) → IsProper m → m.body ≡ Query selects → results_fit selects ≡ b
+    → Fit (cond a (turn (hearing s peer m) (cond b (out peer (query_answer s m selects) ∷ []) [])) (turn s []))
+query_taken_fits s peer m selects true true p b f = (answer_is s m selects (is_own s m) p b f, tt)
+query_taken_fits s peer m selects true false p b f = tt
+query_taken_fits s peer m selects false c p b f = tt
+
+-- ---- Configs
+module _ (s : ElementState) (peer : ℕ) (m : Message) (selects : List Select) (f : results_fit selects ≡ true) where
+  response_fits_it : (codes : List ℕ) (r : Option Message) → reply m selects codes ≡ r → AllByRecursion CanBeSent (responses peer r)
+  response_fits_it codes None e = tt
+  response_fits_it codes (Some r) e = (reply_fits m r selects codes f e, tt)
+
+  unclaimed_fits : (a b : Bool) (mode : Mode)
+      → Fit (cond (not a) (all_get s peer m selects 12) (cond b (all_get s peer m selects 21) (executing s peer m selects (executed mode s.store selects))))
+  unclaimed_fits false b mode = response_fits_it (each_gets 12 selects) (reply m selects (each_gets 12 selects)) refl
+  unclaimed_fits true true mode = response_fits_it (each_gets 21 selects) (reply m selects (each_gets 21 selects)) refl
+  unclaimed_fits true false mode = response_fits_it (executed mode s.store selects).codes (reply m selects (executed mode s.store selects).codes) refl
+
+  named_fits : (b c : Bool) → Fit (cond (not b) (all_get s peer m selects 4) (cond c (all_get s peer m selects 18) (renewing peer m (unclaimed s peer m selects))))
+  named_fits false c = response_fits_it (each_gets 4 selects) (reply m selects (each_gets 4 selects)) refl
+  named_fits true true = response_fits_it (each_gets 18 selects) (reply m selects (each_gets 18 selects)) refl
+  named_fits true false = unclaimed_fits (m.source == s.told.ce) m.flags.at (mode_of m.flags.em)
+
+order_fits : (s : ElementState) (peer : ℕ) (m : Message) (selects : List Select) (a b : Bool) → results_fit selects ≡ a
+    → Fit (cond (not (a && b)) (turn s []) (cond (not (is_own s m)) (all_get s peer m selects 4) (cond (m.flags.em == 0) (all_get s peer m selects 18) (renewing peer m (unclaimed s peer m selects)))))
+order_fits s peer m selects true true e = named_fits s peer m selects e (is_own s m) (m.flags.em == 0)
+order_fits s peer m selects true false e = tt
+order_fits s peer m selects false b e = tt
+
+config_fits : (s : ElementState) (peer : ℕ) (m : Message) (selects : List Select) (a : Bool) → Fit (cond a (by_order s peer m selects) (turn s []))
+config_fits s peer m selects true = order_fits s peer m selects (results_fit selects) (message_fits m) refl
+config_fits s peer m selects false = tt
+
+body_fits : (s : ElementState) (peer : ℕ) (m : Message) → IsProper m → (body : MsgBody) → m.body ≡ body → Fit (on_body s peer m body)
+body_fits s peer m p (Setup selects) e = tt
+body_fits s peer m p (SetupResponse result) e = entered_fits (is_own s m && result == 0) _ _
+body_fits s peer m p (Teardown reason) e = tt
+body_fits s peer m p (Config selects) e = config_fits s peer m selects (is_associated s m)
+body_fits s peer m p (ConfigResponse selects) e = tt
+body_fits s peer m p (Query selects) e = query_taken_fits s peer m selects (is_associated s m) (results_fit selects) p e refl
+body_fits s peer m p (QueryResponse selects) e = tt
+body_fits s peer m p (Event selects) e = tt
+body_fits s peer m p Heartbeat e = answered_fits (is_associated s m && m.flags.ack == 3) peer m
+
+message_taken_fits : (s : ElementState) (peer : ℕ) (m : Message) → IsProper m → Fit (on_message s peer m)
+message_taken_fits s peer m p = by_sender (is_ce m.source)
   where
     by_sender : (b : Bool) → Fit (if b then on_body s peer m m.body else turn s [])
-    by_sender true = body_fits s peer m m.body
+    by_sender true = body_fits s peer m p m.body refl
     by_sender false = tt
 
--- whatever comes, all that the element sends can be encoded
-pub step_fits : (s : ElementState) (input : ElIn) → Fit (step s input)
+-- whatever comes that the grammar has, all that the element sends can be encoded
+pub step_fits : (s : ElementState) (input : ElIn) → IsProperIn input → Fit (step s input)
 unfolding step
-step_fits s (Opened peer) = (setup_fits s.id, tt)
-step_fits s (Arrived peer m) = message_taken_fits s peer m
-step_fits s (Closed peer) = tt
-step_fits s (Moment moment) = beating_fits (watched (moved_on s moment))
+step_fits s (Opened peer) p = (setup_fits s.told.id, tt)
+step_fits s (Arrived peer m) p = message_taken_fits s peer m p
+step_fits s (Closed peer) p = tt
+step_fits s (Moment moment) p = beating_fits (watched (moved_on s moment))
 
 -- so can what a call gives that gives what the machine sends
-pub given_fits : (s : ElementState) (input : ElIn) (r : Result (List Out) Memory) → IfOk r (λ outs. outs ≡ (step s input).outs) → IfOk r (λ outs. AllByRecursion CanBeSent outs)
-given_fits s input (Ok outs) same = subst (AllByRecursion CanBeSent) (sym same) (step_fits s input)
-given_fits s input (Err e) same = tt
+pub given_fits : (s : ElementState) (input : ElIn) (r : Result (List Out) Memory) → IsProperIn input → IfOk r (λ outs. outs ≡ (step s input).outs) → IfOk r (λ outs. AllByRecursion CanBeSent outs)
+given_fits s input (Ok outs) p same = subst (AllByRecursion CanBeSent) (sym same) (step_fits s input p)
+given_fits s input (Err e) p same = tt

@@ -1,25 +1,39 @@
--- What an element does with what comes: RFC 5810, sections 4.4 and 7.5 on associations and 7.10 on heartbeats.
-use Rattle.std.specs.Prelude.{◌≡◌, ℕ, ◌-◌, ◌/◌, ◌%◌, ◌^◌, ◌==◌, ◌&&◌, not, nat_lt, max, Bool, true, false, if◌then◌else◌, List, [], ◌∷◌, ◌++◌, map, codes, decimal}
+-- What an element does with what comes: RFC 5810, sections 4.4 and 7.5 on associations, 7.6 on configuration, 7.7 on queries and 7.10 on
+-- heartbeats. That a Config of another control element than the one that is to be its master is refused, and with which codes what is not
+-- executed is answered, is this profile's own.
+use Rattle.std.specs.Prelude.{◌≡◌, ℕ, ◌-◌, ◌/◌, ◌%◌, ◌^◌, ◌==◌, ◌&&◌, not, nat_lt, max, Bool, true, false, if◌then◌else◌, List, [], ◌∷◌, ◌++◌, map, codes, decimal, Option, Some, None}
 use Rattle.std.specs.FinMap.{contains_key, entries, remove, len}
-use Rattle.fc_base.specs.Hex.{hex}
 use Rattle.fc_assoc.specs.Associations.{AssociationMap, entered, renewed, still_heard}
 use Rattle.fc_wire.specs.Flags.{FlagValues}
+use Rattle.fc_path.specs.Results.{results_fit}
+use Rattle.fc_path.specs.declared.oper.Select.{Select}
 use Rattle.fc_msg.specs.Messages.{IsProper, message_fits}
 use Rattle.fc_msg.specs.declared.message.Message.{Message}
 use Rattle.fc_msg.specs.declared.message.MsgBody.{MsgBody}
 use Rattle.fc_msg.specs.declared.message.MsgBody.TheVariants.{Setup, SetupResponse, Teardown, Config, ConfigResponse, Query, QueryResponse, Event, Heartbeat}
+use Rattle.fc_modes.specs.Modes.{Outcome}
+use Rattle.fc_modes.specs.declared.mode.Mode.{Mode}
+use Rattle.fc_modes.specs.declared.mode.Mode.TheVariants.{AllOrNone, UntilFailure, Continue}
+use Rattle.fc_store.specs.Stores.{Stored}
+use Rattle.fc_exec.specs.Operations.{executed}
+use Rattle.fc_exec.specs.declared.operations.Operation.{Operation}
+use Rattle.fc_reply.specs.Counting.{each_gets}
+use Rattle.fc_reply.specs.Replies.{reply}
 use Rattle.fc_element.specs.declared.input.ElIn.{ElIn}
 use Rattle.fc_element.specs.declared.input.ElIn.TheVariants.{Opened, Arrived, Closed, Moment}
 use Rattle.fc_element.specs.declared.input.Out.{Out}
 use Rattle.fc_element.specs.ElementState.{ElementState}
+use Rattle.fc_blocks.specs.Queries.{foreign_selects, told_selects}
+use Rattle.fc_blocks.specs.Settings.{ce_policy, ce_dead, fe_policy, fe_interval}
 
--- what the element is after an input, and what it sends, in this order
+-- what the element is after an input, what it sends, in this order, and which operations it has done on its configuration
 pub record Turn : Type 0 where
   pub state : ElementState
   pub outs : List Out
+  pub done : List Operation
 
 abbrev pub turn : ElementState → List Out → Turn
-turn s outs = record { state = s; outs = outs }
+turn s outs = record { state = s; outs = outs; done = [] }
 
 -- flags that ask for this acknowledgement and nothing else
 abbrev pub asking : ℕ → FlagValues
@@ -36,35 +50,109 @@ setup_of id = record { source = id; dest = 4294967293; corr = 0; flags = asking 
 abbrev pub heartbeat_of : ℕ → ℕ → Message
 heartbeat_of id ce = record { source = id; dest = ce; corr = 0; flags = asking 0; body = Heartbeat }
 
--- the answer to a heartbeat: the IDs exchanged, the same correlator
-abbrev pub answer_to : Message → Message
-answer_to m = record { source = m.dest; dest = m.source; corr = m.corr; flags = asking 0; body = Heartbeat }
+-- an answer: the IDs exchanged, the same correlator
+abbrev pub answer_with : Message → MsgBody → Message
+answer_with m body = record { source = m.dest; dest = m.source; corr = m.corr; flags = asking 0; body = body }
 
--- the state with other associations
+-- the answer to a heartbeat
+abbrev pub answer_to : Message → Message
+answer_to m = answer_with m Heartbeat
+
+-- the state with other associations, and with another configuration
 abbrev pub with_associations : ElementState → AssociationMap → ElementState
-with_associations s m =
-    record { id = s.id; ce = s.ce; associations = m; clock = s.clock; last_beat = s.last_beat; settings = s.settings }
+with_associations s m = record { told = s.told; store = s.store; associations = m; clock = s.clock; last_beat = s.last_beat }
+
+abbrev pub with_store : ElementState → Stored → ElementState
+with_store s store = record { told = s.told; store = store; associations = s.associations; clock = s.clock; last_beat = s.last_beat }
+
+-- the control element that a message comes from was heard
+abbrev pub hearing : ElementState → ℕ → Message → ElementState
+hearing s peer m = with_associations s (renewed s.associations m.source peer s.clock)
+
+abbrev pub is_associated : ElementState → Message → Bool
+is_associated s m = contains_key s.associations m.source
+
+-- the message is for this element
+abbrev pub is_own : ElementState → Message → Bool
+is_own s m = m.dest == s.told.id
 
 -- the number is a control element's ID
 abbrev pub is_ce : ℕ → Bool
 is_ce n = n / 2 ^ 30 == 1 && not (n % 256 == 0)
 
+-- ---- heartbeats
 -- a heartbeat renews an association, and is answered where it asks for that
 abbrev pub on_heartbeat : ElementState → ℕ → Message → Turn
 on_heartbeat s peer m =
-    turn (with_associations s (renewed s.associations m.source peer s.clock))
-    (if contains_key s.associations m.source && m.flags.ack == 3 then out peer (answer_to m) ∷ [] else [])
+    turn (hearing s peer m) (if is_associated s m && m.flags.ack == 3 then out peer (answer_to m) ∷ [] else [])
 
--- An accepted association to this element is entered or renewed; a heartbeat renews one, and a teardown ends one.
+-- ---- queries
+-- the selects of the answer
+abbrev pub query_selects : ElementState → Message → List Select → List Select
+query_selects s m selects = if is_own s m then told_selects s.told s.store selects else foreign_selects selects
+
+abbrev pub query_answer : ElementState → Message → List Select → Message
+query_answer s m selects = answer_with m (QueryResponse (query_selects s m selects))
+
+-- it is answered whatever acknowledgement it asks for, but where results alone pass a length field
+abbrev pub query_outs : ElementState → ℕ → Message → List Select → List Out
+query_outs s peer m selects = if results_fit selects then out peer (query_answer s m selects) ∷ [] else []
+
+abbrev pub on_query : ElementState → ℕ → Message → List Select → Turn
+on_query s peer m selects = if is_associated s m then turn (hearing s peer m) (query_outs s peer m selects) else turn s []
+
+-- ---- configuration
+-- a response, if one is sent
+abbrev pub responses : ℕ → Option Message → List Out
+responses peer None = []
+responses peer (Some r) = out peer r ∷ []
+
+-- all operations get one code, and nothing is done
+abbrev pub all_get : ElementState → ℕ → Message → List Select → ℕ → Turn
+all_get s peer m selects code = turn s (responses peer (reply m selects (each_gets code selects)))
+
+-- the execution mode of a number other than 0
+abbrev pub mode_of : ℕ → Mode
+mode_of em = if em == 1 then AllOrNone else (if em == 2 then UntilFailure else Continue)
+
+-- the operations are executed at once
+abbrev pub executing : ElementState → ℕ → Message → List Select → Outcome Stored Operation → Turn
+executing s peer m selects o =
+    record { state = with_store s o.state; outs = responses peer (reply m selects o.codes); done = o.done }
+
+-- an element that no life of a control element has claimed is configured by its first control element alone, without transactions
+abbrev pub unclaimed : ElementState → ℕ → Message → List Select → Turn
+unclaimed s peer m selects =
+    if not (m.source == s.told.ce) then all_get s peer m selects 12
+    else (if m.flags.at then all_get s peer m selects 21
+    else executing s peer m selects (executed (mode_of m.flags.em) s.store selects))
+
+-- the same, and the control element was heard
+abbrev pub renewing : ℕ → Message → Turn → Turn
+renewing peer m t = record { state = hearing t.state peer m; outs = t.outs; done = t.done }
+
+-- what can't be answered, or comes for another element, or has no execution mode, does not renew the association
+abbrev pub by_order : ElementState → ℕ → Message → List Select → Turn
+by_order s peer m selects =
+    if not (results_fit selects && message_fits m) then turn s []
+    else (if not (is_own s m) then all_get s peer m selects 4
+    else (if m.flags.em == 0 then all_get s peer m selects 18
+    else renewing peer m (unclaimed s peer m selects)))
+
+abbrev pub on_config : ElementState → ℕ → Message → List Select → Turn
+on_config s peer m selects = if is_associated s m then by_order s peer m selects else turn s []
+
+-- ---- messages
+-- An accepted association to this element is entered or renewed; a heartbeat, a query or a Config renews one, and a teardown ends one.
 -- Everything else is ignored, as is all that comes from a control element without an association.
 abbrev pub on_body : ElementState → ℕ → Message → MsgBody → Turn
 on_body s peer m (Setup selects) = turn s []
 on_body s peer m (SetupResponse result) =
-    if m.dest == s.id && result == 0 then turn (with_associations s (entered s.associations m.source peer s.clock)) [] else turn s []
+    if is_own s m && result == 0 then turn (with_associations s (entered s.associations m.source peer s.clock)) [] else turn s []
 on_body s peer m (Teardown reason) = turn (with_associations s (remove s.associations m.source)) []
-on_body s peer m (Config selects) = turn s []
+on_body s peer m (Config selects) = on_config s peer m selects
 on_body s peer m (ConfigResponse selects) = turn s []
-on_body s peer m (Query selects) = turn s []
+on_body s peer m (Query selects) = on_query s peer m selects
 on_body s peer m (QueryResponse selects) = turn s []
 on_body s peer m (Event selects) = turn s []
 on_body s peer m Heartbeat = on_heartbeat s peer m
@@ -73,50 +161,43 @@ on_body s peer m Heartbeat = on_heartbeat s peer m
 abbrev pub on_message : ElementState → ℕ → Message → Turn
 on_message s peer m = if is_ce m.source then on_body s peer m m.body else turn s []
 
+-- ---- moments
 -- the moment never goes back
 abbrev pub moved_on : ElementState → ℕ → ElementState
-moved_on s moment = record {
-  id = s.id;
-  ce = s.ce;
-  associations = s.associations;
-  clock = max s.clock moment;
-  last_beat = s.last_beat;
-  settings = s.settings;
-}
+moved_on s moment = record { told = s.told; store = s.store; associations = s.associations; clock = max s.clock moment; last_beat = s.last_beat }
 
 -- associations that are silent for too long end, where the element watches them
 abbrev pub watched : ElementState → ElementState
-watched s =
-    if s.settings.ce_policy == 0 then with_associations s (still_heard s.associations s.clock s.settings.ce_dead) else s
+watched s = if ce_policy s.store == 0 then with_associations s (still_heard s.associations s.clock (ce_dead s.store)) else s
 
 -- whether heartbeats are due: the element sends them, long enough has passed since the last, and someone is there
 abbrev pub is_due : ElementState → Bool
 is_due s =
-    s.settings.fe_policy == 1 && (not (nat_lt (s.clock - s.last_beat) s.settings.fe_interval) && not (len s.associations == 0))
+    fe_policy s.store == 1 && (not (nat_lt (s.clock - s.last_beat) (fe_interval s.store)) && not (len s.associations == 0))
 
 -- a heartbeat to each association, by rising ID
 abbrev pub beats_of : ℕ → AssociationMap → List Out
 beats_of id m = map (λ pair. out pair.1.peer (heartbeat_of id pair.0)) (entries m)
 
 abbrev pub beaten : ElementState → ElementState
-beaten s = record {
-  id = s.id;
-  ce = s.ce;
-  associations = s.associations;
-  clock = s.clock;
-  last_beat = s.clock;
-  settings = s.settings;
-}
+beaten s = record { told = s.told; store = s.store; associations = s.associations; clock = s.clock; last_beat = s.clock }
 
 abbrev pub beating : ElementState → Turn
-beating s = if is_due s then turn (beaten s) (beats_of s.id s.associations) else turn s []
+beating s = if is_due s then turn (beaten s) (beats_of s.told.id s.associations) else turn s []
 
--- one input
+-- ---- one input
 unfoldable pub step : ElementState → ElIn → Turn
-step s (Opened peer) = turn s (out peer (setup_of s.id) ∷ [])
+step s (Opened peer) = turn s (out peer (setup_of s.told.id) ∷ [])
 step s (Arrived peer m) = on_message s peer m
 step s (Closed peer) = turn s []
 step s (Moment moment) = beating (watched (moved_on s moment))
+
+-- a message that comes is one that the grammar has
+abbrev pub IsProperIn : ElIn → Type 0
+IsProperIn (Opened peer) = Unit {0}
+IsProperIn (Arrived peer m) = IsProper m
+IsProperIn (Closed peer) = Unit {0}
+IsProperIn (Moment moment) = Unit {0}
 
 -- a message that has a spelling: no length in it is too long for its field
 abbrev pub CanBeSent : Out → Type 0
@@ -125,11 +206,3 @@ CanBeSent o = message_fits o.message ≡ true
 -- a message that the grammar has, and so one that is decoded as itself
 abbrev pub IsSaid : Out → Type 0
 IsSaid o = IsProper o.message
-
--- the report on an element: its ID, the epoch, its master and the sequence
-abbrev pub report_text : ℕ → ℕ → List ℕ
-report_text id ce =
-    codes "element " ++ (decimal id ++ (codes " epoch 0 ce " ++ (hex 8 ce ++ codes " sequence 0\n")))
-
-abbrev pub report_of : ElementState → List ℕ
-report_of s = report_text s.id s.ce

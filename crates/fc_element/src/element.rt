@@ -1,28 +1,38 @@
 // The element.
-ghost use Rattle.std.specs.Prelude.{◌≡◌, ◌++◌, IfOk, OnOk, OnErr};
-ghost use Rattle.std.specs.List.{AllByRecursion};
-ghost use Rattle.fc_base.specs.Ids.{IsCe};
-ghost use Rattle.fc_element.specs.ElementMachine.{CanBeSent, IsSaid, step, beating, is_due, moved_on, on_body, on_message, report_of, setup_of, turn, out, watched};
+ghost use Rattle.std.specs.Prelude.{◌≡◌, ◌++◌, IfOk, OnOk, OnErr, true};
+ghost use Rattle.std.specs.List.{AllByRecursion, list_all};
+ghost use Rattle.fc_types.specs.Libraries.{AreKnown, is_own};
+ghost use Rattle.fc_msg.specs.Messages.{IsProper, ProperSelects};
+ghost use Rattle.fc_path.specs.Results.{results_fit};
+ghost use Rattle.fc_msg.specs.declared.message.MsgBody.TheVariants.{Config, Query};
+ghost use Rattle.fc_element.specs.ElementMachine.{CanBeSent, IsProperIn, IsSaid, all_get, beating, by_order, is_due, moved_on, on_body, on_config, on_message, on_query, query_outs, query_selects, step, unclaimed, watched};
 ghost use Rattle.fc_element.specs.ElementState.{opened};
+ghost use Rattle.fc_element.specs.Reports.{report_of};
+ghost use Rattle.fc_blocks.specs.Settings.{settings_in as settings_of};
 
-use crate::replies::{ALWAYS, answer, one, push_beats, setup};
+use crate::config::{can_be_answered, execute, refusals};
+use crate::replies::{ALWAYS, answer, one, push_beats, query_answer, setup};
 use crate::report::report_line;
-use crate::{ElIn, HeartbeatSettings, Out};
+use crate::{ElIn, Out};
 use fc_assoc::Associations;
-use fc_base::{CeId, FeId, List, Memory};
+use fc_base::{CeId, Code, FeId, List, Memory};
+use fc_blocks::{HeartbeatSettings, foreign_selects, open_blocks, settings_in, told_selects};
+use fc_lfbs::LiveState;
 use fc_msg::{Message, MsgBody};
+use fc_path::{Select, fits_results};
+use fc_store::Store;
+use fc_types::{Instances, Library};
 use std::alloc::Global;
 use std::marker::Model;
 
 /// A forwarding element, which contracts see as what it holds.
 #[derive(Debug, Drop)]
 pub struct Element {
-    id: FeId,
-    ce: CeId,
+    live: LiveState,
+    store: Store,
     associations: Associations,
     clock: u64,
     last_beat: u64,
-    settings: HeartbeatSettings,
     alloc: Global,
 }
 
@@ -33,21 +43,30 @@ impl Model for Element {
 
     ghost coded = { state_code };
 
-    ghost view = { λ s. record { id = s.id; ce = s.ce; associations = s.associations; clock = s.clock; last_beat = s.last_beat; settings = s.settings } };
+    ghost view = { λ s. record { told = s.live; store = s.store; associations = s.associations; clock = s.clock; last_beat = s.last_beat } };
 }
 
 impl Element {
-    /// An element with this ID, whose master is to be that control element. It has no association, and its moment is 0.
-    pub fn new(alloc: Global, id: FeId, ce: CeId) -> Result<Element, Memory>
-        ensures { IfOk result (λ element. element ≡ opened id ce) }
+    /// An element with this ID, a library and instances to which it adds its own, and the control element that is to configure it. It has
+    /// no association, its components have their opening values, and its moment is 0.
+    pub fn new(
+        alloc: Global,
+        id: FeId,
+        ce: CeId,
+        library: Library,
+        instances: Instances,
+    ) -> Result<Element, Memory>
+        requires absent { list_all is_own library ≡ true }
+        requires known { AreKnown library instances }
+        ensures { IfOk result (λ element. element ≡ opened id ce library instances) }
     {
+        let (live, store) = open_blocks(alloc, id, ce, library, instances)?;
         Ok(Element {
-            id,
-            ce,
+            live,
+            store,
             associations: Associations::new(alloc),
             clock: 0,
             last_beat: 0,
-            settings: HeartbeatSettings::opening(),
             alloc,
         })
     }
@@ -55,6 +74,7 @@ impl Element {
     /// Takes an input, and gives the messages that it sends, in their order, each of which can be encoded and is decoded as
     /// itself. After an `Err` nothing has changed, as if the input had been lost.
     pub fn step(&mut self, input: ElIn) -> Result<List<Out>, Memory>
+        requires proper { IsProperIn input }
         ensures outs { IfOk result (λ outs. outs ≡ (step self.old input).outs) }
         ensures fit { IfOk result (λ outs. AllByRecursion CanBeSent outs) }
         ensures proper { IfOk result (λ outs. AllByRecursion IsSaid outs) }
@@ -67,13 +87,14 @@ impl Element {
     // The same, of which that all can be encoded is not said.
     #[tactic(auto, unfolding(crate::specs::ElementMachine::step))]
     fn taken(&mut self, input: ElIn) -> Result<List<Out>, Memory>
+        requires proper { IsProperIn input }
         ensures outs { IfOk result (λ outs. outs ≡ (step self.old input).outs) }
         ensures proper { IfOk result (λ outs. AllByRecursion IsSaid outs) }
         ensures ok { OnOk result (self.new ≡ (step self.old input).state) }
         ensures err { OnErr result (self.new ≡ self.old) }
     {
         match input {
-            ElIn::Opened(peer) => one(self.alloc, peer, setup(self.alloc, self.id)),
+            ElIn::Opened(peer) => one(self.alloc, peer, setup(self.alloc, self.live.id)),
             ElIn::Arrived(peer, message) => self.arrived(peer, message),
             ElIn::Closed(_) => Ok(List::new(self.alloc)),
             ElIn::Moment(moment) => self.moment(moment),
@@ -82,6 +103,7 @@ impl Element {
 
     // A message came from a peer.
     fn arrived(&mut self, peer: u32, message: Message) -> Result<List<Out>, Memory>
+        requires { IsProper message }
         ensures outs { IfOk result (λ outs. outs ≡ (on_message self.old peer message).outs) }
         ensures proper { IfOk result (λ outs. AllByRecursion IsSaid outs) }
         ensures ok { OnOk result (self.new ≡ (on_message self.old peer message).state) }
@@ -95,16 +117,17 @@ impl Element {
 
     // A message came from a control element.
     fn heard(&mut self, ce: CeId, peer: u32, message: &Message) -> Result<List<Out>, Memory>
-        requires { ce ≡ message.now.source }
+        requires sender { ce ≡ message.now.source }
+        requires proper { IsProper message.now }
         ensures outs { IfOk result (λ outs. outs ≡ (on_body self.old peer message.now message.now.body).outs) }
         ensures proper { IfOk result (λ outs. AllByRecursion IsSaid outs) }
         ensures ok { OnOk result (self.new ≡ (on_body self.old peer message.now message.now.body).state) }
         ensures err { OnErr result (self.new ≡ self.old) }
     {
         let none = List::new(self.alloc);
-        match message.body {
+        match &message.body {
             MsgBody::SetupResponse(result) => {
-                if message.dest == self.id.get() && result == 0 {
+                if message.dest == self.live.id.get() && *result == 0 {
                     self.associations.setup_answer(ce, peer, self.clock)?;
                 }
                 Ok(none)
@@ -124,13 +147,146 @@ impl Element {
                 self.associations.heard(ce, peer, self.clock);
                 Ok(outs)
             }
+            MsgBody::Query(selects) => self.queried(ce, peer, message, selects.as_slice()),
+            MsgBody::Config(selects) => self.configured(ce, peer, message, selects.as_slice()),
             MsgBody::Setup(_)
-            | MsgBody::Config(_)
             | MsgBody::ConfigResponse(_)
-            | MsgBody::Query(_)
             | MsgBody::QueryResponse(_)
             | MsgBody::Event(_) => Ok(none),
         }
+    }
+
+    // A query came.
+    fn queried(
+        &mut self,
+        ce: CeId,
+        peer: u32,
+        message: &Message,
+        selects: &[Select],
+    ) -> Result<List<Out>, Memory>
+        requires sender { ce ≡ message.now.source }
+        requires proper { IsProper message.now }
+        requires body { message.now.body ≡ Query selects.now }
+        ensures outs { IfOk result (λ outs. outs ≡ (on_query self.old peer message.now selects.now).outs) }
+        ensures proper { IfOk result (λ outs. AllByRecursion IsSaid outs) }
+        ensures ok { OnOk result (self.new ≡ (on_query self.old peer message.now selects.now).state) }
+        ensures err { OnErr result (self.new ≡ self.old) }
+    {
+        if self.associations.peer_of(ce).is_none() {
+            return Ok(List::new(self.alloc));
+        }
+        let outs = self.answers(peer, message, selects)?;
+        self.associations.heard(ce, peer, self.clock);
+        Ok(outs)
+    }
+
+    // The answer to a query, if there is one.
+    fn answers(&self, peer: u32, message: &Message, selects: &[Select]) -> Result<List<Out>, Memory>
+        requires proper { IsProper message.now }
+        requires body { message.now.body ≡ Query selects.now }
+        ensures outs { IfOk result (λ outs. outs ≡ query_outs self.now peer message.now selects.now) }
+        ensures proper { IfOk result (λ outs. AllByRecursion IsSaid outs) }
+    {
+        if !fits_results(selects) {
+            return Ok(List::new(self.alloc));
+        }
+        let others = self.query_selects(message, selects)?;
+        one(self.alloc, peer, query_answer(message, others))
+    }
+
+    // The selects of the answer to a query.
+    fn query_selects(&self, message: &Message, selects: &[Select]) -> Result<List<Select>, Memory>
+        requires proper { ProperSelects 4 selects.now }
+        requires fits { results_fit selects.now ≡ true }
+        ensures exact { IfOk result (λ others. others ≡ query_selects self.now message.now selects.now) }
+        ensures proper { IfOk result (λ others. ProperSelects 20 others) }
+    {
+        if message.dest == self.live.id.get() {
+            told_selects(self.alloc, &self.live, &self.store, selects)
+        } else {
+            foreign_selects(self.alloc, selects)
+        }
+    }
+
+    // A Config came.
+    fn configured(
+        &mut self,
+        ce: CeId,
+        peer: u32,
+        message: &Message,
+        selects: &[Select],
+    ) -> Result<List<Out>, Memory>
+        requires sender { ce ≡ message.now.source }
+        requires proper { IsProper message.now }
+        requires body { message.now.body ≡ Config selects.now }
+        ensures outs { IfOk result (λ outs. outs ≡ (on_config self.old peer message.now selects.now).outs) }
+        ensures proper { IfOk result (λ outs. AllByRecursion IsSaid outs) }
+        ensures ok { OnOk result (self.new ≡ (on_config self.old peer message.now selects.now).state) }
+        ensures err { OnErr result (self.new ≡ self.old) }
+    {
+        if self.associations.peer_of(ce).is_none() {
+            return Ok(List::new(self.alloc));
+        }
+        self.by_order(ce, peer, message, selects)
+    }
+
+    // A Config came from a control element that has an association.
+    fn by_order(
+        &mut self,
+        ce: CeId,
+        peer: u32,
+        message: &Message,
+        selects: &[Select],
+    ) -> Result<List<Out>, Memory>
+        requires sender { ce ≡ message.now.source }
+        requires proper { IsProper message.now }
+        requires body { message.now.body ≡ Config selects.now }
+        ensures outs { IfOk result (λ outs. outs ≡ (by_order self.old peer message.now selects.now).outs) }
+        ensures proper { IfOk result (λ outs. AllByRecursion IsSaid outs) }
+        ensures ok { OnOk result (self.new ≡ (by_order self.old peer message.now selects.now).state) }
+        ensures err { OnErr result (self.new ≡ self.old) }
+    {
+        if !can_be_answered(self.alloc, message, selects)? {
+            return Ok(List::new(self.alloc));
+        }
+        if message.dest != self.live.id.get() {
+            return refusals(
+                self.alloc,
+                peer,
+                message,
+                selects,
+                Code::INVALID_DESTINATION_PID,
+            );
+        }
+        if message.flags.em == 0 {
+            return refusals(self.alloc, peer, message, selects, Code::INVALID_FLAGS);
+        }
+        let outs = self.unclaimed(peer, message, selects)?;
+        self.associations.heard(ce, peer, self.clock);
+        Ok(outs)
+    }
+
+    // A Config with an execution mode came for this element, which no life of a control element has claimed.
+    fn unclaimed(
+        &mut self,
+        peer: u32,
+        message: &Message,
+        selects: &[Select],
+    ) -> Result<List<Out>, Memory>
+        requires proper { IsProper message.now }
+        requires body { message.now.body ≡ Config selects.now }
+        ensures outs { IfOk result (λ outs. outs ≡ (unclaimed self.old peer message.now selects.now).outs) }
+        ensures proper { IfOk result (λ outs. AllByRecursion IsSaid outs) }
+        ensures ok { OnOk result (self.new ≡ (unclaimed self.old peer message.now selects.now).state) }
+        ensures err { OnErr result (self.new ≡ self.old) }
+    {
+        if message.source != self.live.ce {
+            return refusals(self.alloc, peer, message, selects, Code::READ_ONLY);
+        }
+        if message.flags.at {
+            return refusals(self.alloc, peer, message, selects, Code::NOT_SUPPORTED);
+        }
+        execute(self.alloc, &mut self.store, peer, message, selects)
     }
 
     // It is this moment.
@@ -140,35 +296,37 @@ impl Element {
         ensures ok { OnOk result (self.new ≡ (beating (watched (moved_on self.old moment))).state) }
         ensures err { OnErr result (self.new ≡ self.old) }
     {
+        let settings = settings_in(self.alloc, &self.store)?;
         let mut outs = Vec::with_capacity(self.alloc, Associations::MOST)?;
         let now = self.clock.max(moment);
-        if self.settings.ce_policy == 0 {
-            self.associations.moment(now, self.settings.ce_dead)?;
+        if settings.ce_policy == 0 {
+            self.associations.moment(now, settings.ce_dead)?;
         }
         self.clock = now;
-        if self.is_due() {
-            push_beats(self.id, &self.associations, &mut outs);
+        if self.is_due(&settings) {
+            push_beats(self.live.id, &self.associations, &mut outs);
             self.last_beat = self.clock;
         }
         Ok(List::from_vec(outs))
     }
 
-    // Whether heartbeats are due.
-    fn is_due(&self) -> bool
+    // Whether heartbeats are due, by the settings that the configuration has.
+    fn is_due(&self, settings: &HeartbeatSettings) -> bool
+        requires { settings.now ≡ settings_of self.now.store }
         ensures { result ≡ is_due self.now }
     {
-        self.settings.fe_policy == 1
-            && self.clock.saturating_sub(self.last_beat) >= u64::from(self.settings.fe_interval)
+        settings.fe_policy == 1
+            && self.clock.saturating_sub(self.last_beat) >= u64::from(settings.fe_interval)
             && self.associations.len() != 0
     }
 
-    /// Appends the report: one line with the ID, the epoch, the master and the sequence. After an `Err` nothing has
-    /// changed.
+    /// Appends the report: one line with the ID, the epoch, the master and the sequence, and a line for each component whose value is not
+    /// the one that it opened with. After an `Err` nothing has changed.
     pub fn report(&self, into: &mut Vec<u8>) -> Result<(), Memory>
         ensures ok { OnOk result (into.new.items ≡ into.old.items ++ report_of self.now) }
         ensures err { OnErr result (into.new.items ≡ into.old.items) }
     {
-        let line = report_line(self.alloc, self.id, self.ce)?;
+        let line = report_line(self.alloc, self.live.id, self.live.ce)?;
         into.extend_from_slice(line.as_slice())?;
         Ok(())
     }

@@ -1,25 +1,40 @@
 // Laws of an element over whole lists of inputs.
-ghost use Rattle.std.specs.Prelude.{◌≡◌, ◌++◌, ◌∷◌, ◌↔◌, [], List, ℕ};
+ghost use Rattle.std.specs.Prelude.{◌≡◌, ◌≤◌, ◌+◌, ◌++◌, ◌∷◌, ◌↔◌, [], List, ℕ};
 ghost use Rattle.std.specs.List.{AllByRecursion};
+ghost use Rattle.std.specs.List.Sorted.{IsPermutation};
 ghost use Rattle.fc_assoc.specs.declared.heard.Heard.{Heard};
+ghost use Rattle.fc_exec.specs.Operations.{applied};
+ghost use Rattle.fc_modes.specs.Modes.{folded};
 ghost use Rattle.fc_msg.specs.declared.message.Message.{Message};
+ghost use Rattle.fc_types.specs.declared.class.Class.{Class as Classes};
 ghost use Rattle.fc_element.specs.ElementMachine.{answer_to, out, step};
 ghost use Rattle.fc_element.specs.ElementState.{ElementState, opened};
-ghost use Rattle.fc_element.specs.Runs.{Asks, IsAssociated, IsInTime, WasAccepted, WasCalledFor, WasHeard, after, sent};
+ghost use Rattle.fc_element.specs.Runs.{Asks, IsAssociated, IsNoMoment, WasAccepted, WasCalledFor, WasHeard, WasLast, after, done, sent};
+ghost use Rattle.fc_blocks.specs.Settings.{ce_dead, ce_policy};
 ghost use Rattle.fc_element.specs.declared.input.ElIn.{ElIn};
-ghost use Rattle.fc_element.specs.declared.input.ElIn.TheVariants.{Arrived};
+ghost use Rattle.fc_element.specs.declared.input.ElIn.TheVariants.{Arrived, Moment};
 
-/// Whoever has an association after any inputs has accepted it, and was heard within the time that is allowed, over the peer
-/// by which it is reached.
+/// An element is the same in whatever order its instances are given.
+pub fn instances_come_in_any_order()
+    ensures { (id ce : ℕ) (library : List Classes) (one other : List (ℕ × ℕ)) → IsPermutation one other → opened id ce library one ≡ opened id ce library other }
+{}
+
+/// Whoever has an association after any inputs has accepted it, and was heard last over the peer by which it is reached.
 pub fn associations_are_accepted_and_heard()
-    ensures accepted { (id ce who : ℕ) (is : List ElIn) → IsAssociated (after (opened id ce) is) who → WasAccepted (opened id ce) who is }
-    ensures heard { (id ce who : ℕ) (is : List ElIn) → IsAssociated (after (opened id ce) is) who → (h : Heard) × IsInTime (after (opened id ce) is) who h × WasHeard (opened id ce) who h is }
+    ensures accepted { (id ce who : ℕ) (library : List Classes) (instances : List (ℕ × ℕ)) (is : List ElIn) → IsAssociated (after (opened id ce library instances) is) who → WasAccepted (opened id ce library instances) who is }
+    ensures heard { (id ce who : ℕ) (library : List Classes) (instances : List (ℕ × ℕ)) (is : List ElIn) → IsAssociated (after (opened id ce library instances) is) who → (h : Heard) × WasLast (after (opened id ce library instances) is) who h × WasHeard (opened id ce library instances) who h is }
+{}
+
+/// Whoever has an association was, at the last moment that was told, heard within the time that was allowed then, if the configuration
+/// had it then that silent associations end.
+pub fn silent_associations_end()
+    ensures { (s : ElementState) (who moment : ℕ) (behind : List ElIn) → AllByRecursion IsNoMoment behind → ce_policy s.store ≡ 0 → IsAssociated (after s (Moment moment ∷ behind)) who → (h : Heard) × WasLast (after s (Moment moment ∷ behind)) who h × ((after s (Moment moment ∷ behind)).clock ≤ h.last + ce_dead s.store) }
 {}
 
 /// After any inputs a heartbeat is answered, by one message to the peer from which it came, exactly where its sender has an
 /// association and it asks.
 pub fn heartbeats_are_answered()
-    ensures { (id ce peer : ℕ) (is : List ElIn) (m : Message) → ((step (after (opened id ce) is) (Arrived peer m)).outs ≡ out peer (answer_to m) ∷ []) ↔ (IsAssociated (after (opened id ce) is) m.source × Asks m) }
+    ensures { (id ce peer : ℕ) (library : List Classes) (instances : List (ℕ × ℕ)) (is : List ElIn) (m : Message) → ((step (after (opened id ce library instances) is) (Arrived peer m)).outs ≡ out peer (answer_to m) ∷ []) ↔ (IsAssociated (after (opened id ce library instances) is) m.source × Asks m) }
 {}
 
 /// What is sent at inputs is what is sent at each of them, one after the other, and each message that is sent is called for
@@ -27,4 +42,9 @@ pub fn heartbeats_are_answered()
 pub fn nothing_else_is_sent()
     ensures each { (s : ElementState) (before behind : List ElIn) (i : ElIn) → sent s (before ++ i ∷ behind) ≡ sent s before ++ ((step (after s before) i).outs ++ sent (step (after s before) i).state behind) }
     ensures only { (s : ElementState) (is : List ElIn) → AllByRecursion (WasCalledFor s is) (sent s is) }
+{}
+
+/// After any inputs the configuration is what the operations that were done make of the first one, one after the other.
+pub fn the_configuration_is_what_was_done()
+    ensures { (s : ElementState) (is : List ElIn) → (after s is).store ≡ folded applied s.store (done s is) }
 {}

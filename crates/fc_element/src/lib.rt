@@ -1,17 +1,18 @@
 //! A forwarding element as a machine: what comes in, what goes out, and what it holds in between (RFC 5810, section 4,
-//! and RFC 7121). At present it associates with control elements and holds the associations by heartbeats.
+//! and RFC 7121). It associates with control elements and holds the associations by heartbeats, answers queries, and is configured.
 #![tactic(auto)]
 
+mod config;
 mod element;
 mod input;
 mod laws;
 mod replies;
 mod report;
-mod settings;
 
 pub use element::Element;
+pub use fc_blocks::HeartbeatSettings;
 pub use input::{ElIn, Out};
 pub use laws::{
-    associations_are_accepted_and_heard, heartbeats_are_answered, nothing_else_is_sent,
+    associations_are_accepted_and_heard, heartbeats_are_answered, instances_come_in_any_order,
+    nothing_else_is_sent, silent_associations_end, the_configuration_is_what_was_done,
 };
-pub use settings::HeartbeatSettings;

@@ -2,13 +2,15 @@
 ghost use Rattle.std.specs.Prelude.{◌≡◌, ◌≤◌, ◌<◌, ◌-◌, ◌+◌, [], ◌∷◌, ◌++◌, ℕ, map, length, slice_get, vec_len, vec_capacity, IfOk, IfSome};
 ghost use Rattle.std.specs.FinMap.{entries};
 ghost use Rattle.std.specs.List.{AllByRecursion};
-ghost use Rattle.fc_msg.specs.Messages.{IsProper};
-ghost use Rattle.fc_element.specs.ElementMachine.{IsSaid, answer_to, asking, beats_of, heartbeat_of, out, setup_of};
+ghost use Rattle.fc_msg.specs.Messages.{IsProper, ProperSelects};
+ghost use Rattle.fc_msg.specs.declared.message.MsgBody.TheVariants.{QueryResponse};
+ghost use Rattle.fc_element.specs.ElementMachine.{IsSaid, answer_to, answer_with, asking, beats_of, heartbeat_of, out, setup_of};
 
 use crate::Out;
 use fc_assoc::Associations;
 use fc_base::{CeId, FeId, List, Memory};
 use fc_msg::{Message, MsgBody};
+use fc_path::Select;
 use fc_wire::Flags;
 use std::alloc::Global;
 
@@ -58,6 +60,23 @@ pub fn answer(message: &Message) -> Message
         corr,
         flags: asking(0),
         body: MsgBody::Heartbeat,
+    }
+}
+
+/// The answer to a query, with these selects.
+pub fn query_answer(message: &Message, selects: List<Select>) -> Message
+    requires proper { IsProper message.now }
+    requires selects { ProperSelects 20 selects }
+    ensures exact { result ≡ answer_with message.now (QueryResponse selects) }
+    ensures proper { IsProper result }
+{
+    let (from, to, corr) = (message.dest, message.source, message.corr);
+    Message {
+        source: from,
+        dest: to,
+        corr,
+        flags: asking(0),
+        body: MsgBody::QueryResponse(selects),
     }
 }
 

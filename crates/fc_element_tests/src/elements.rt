@@ -1,6 +1,7 @@
 // An element by itself: what it sends for each input.
 use fc_base::{CeId, FeId, List};
-use fc_element::{ElIn, Element, HeartbeatSettings, Out};
+use fc_element::{ElIn, Element, Out};
+use fc_library::library_from_slice;
 use fc_msg::{Message, MsgBody};
 use fc_wire::Flags;
 use std::alloc::Global;
@@ -9,7 +10,8 @@ use std::test::Fail;
 fn element(alloc: Global) -> Result<Element, Fail> {
     let id = FeId::of(2).ok_or("an ID")?;
     let ce = CeId::of(0x4000_0001).ok_or("an ID")?;
-    Ok(Element::new(alloc, id, ce).ok().ok_or("memory")?)
+    let (library, instances) = library_from_slice(alloc, b"").ok().ok_or("a library")?;
+    Ok(Element::new(alloc, id, ce, library, instances)?)
 }
 
 // A message of the controller to this element, with this acknowledgement.
@@ -111,7 +113,5 @@ fn the_report_is_one_line(rt: HostRuntime) -> Result<(), Fail> {
         text.as_slice(),
         b"element 2 epoch 0 ce 40000001 sequence 0\n".as_slice()
     );
-    let settings = HeartbeatSettings::opening();
-    assert_eq!(rt; (settings.ce_policy, settings.ce_dead), (0u8, 30_000u32));
     Ok(())
 }

@@ -1,6 +1,7 @@
 // An element with as many associations as may stand.
 use fc_base::{CeId, FeId};
 use fc_element::{ElIn, Element};
+use fc_library::library_from_slice;
 use fc_msg::{Message, MsgBody};
 use fc_wire::Flags;
 use std::alloc::Global;
@@ -14,7 +15,8 @@ const MOST: u32 = 64;
 fn element(alloc: Global) -> Result<Element, Fail> {
     let id = FeId::of(2).ok_or("an ID")?;
     let ce = CeId::of(FIRST).ok_or("an ID")?;
-    Ok(Element::new(alloc, id, ce).ok().ok_or("memory")?)
+    let (library, instances) = library_from_slice(alloc, b"").ok().ok_or("a library")?;
+    Ok(Element::new(alloc, id, ce, library, instances)?)
 }
 
 // A message of a control element, which asks for an answer.

@@ -1,9 +1,9 @@
 -- How `element` ends, from how its parts ended.
-use Rattle.std.proofs.Common.{◌≡◌, ◌≢◌, ◌<◌, ℕ, List, length, refl, sym, ap, ◌∙◌, inl, inr, [], codes, Option, Result, Ok, Err, IfOk}
+use Rattle.std.proofs.Common.{◌≡◌, ◌≢◌, ◌<◌, ℕ, List, length, refl, sym, ap, subst, ◌∙◌, inl, inr, [], codes, Option, Result, Ok, Err, IfOk}
 use Rattle.std.specs.Io.KnownBytes.{Appends, Keeps}
 use Rattle.std.proofs.KnownBytes.{Appends-nil}
 use Rattle.fc_base.specs.Content.{AppendsFront}
-use Rattle.fc_element.specs.ElementMachine.{report_of}
+use Rattle.fc_element.specs.Reports.{report_of}
 use Rattle.fc_hub.specs.Hubs.{Held}
 use Rattle.fc_hub.specs.declared.event.HubEvent.{HubEvent}
 use Rattle.fc_tool.specs.declared.acting.NodeStop.{NodeStop}
@@ -17,8 +17,11 @@ use Rattle.fc_tool.specs.declared.serve.Served.TheVariants as served
 use Rattle.fc_tool.specs.declared.stops.Stop.{Stop}
 use Rattle.fc_tool.specs.declared.stops.Stop.TheVariants.{NoMemory}
 use Rattle.fc_tool.specs.Acting.{Broke, ServeEnds}
-use Rattle.fc_tool.specs.ElementNode.{NodeState, first_node, node_after}
-use Rattle.fc_library.specs.Documents.{library_of}
+use Rattle.fc_tool.specs.ElementNode.{NodeState, node, first_node, node_after, node_by, node_given}
+use Rattle.fc_types.specs.declared.class.Class.{Class}
+use Rattle.fc_library.specs.Documents.{GivesLibrary, library_of}
+use Rattle.fc_element.proofs.Openings.{opened_same}
+use Rattle.std.specs.FinMap.{empty}
 use Rattle.fc_library.specs.Gives.{Gives}
 use Rattle.fc_library.specs.Refusals.{refusal_text}
 use Rattle.fc_library.specs.declared.fault.LibFault.{LibFault}
@@ -63,43 +66,50 @@ run_is_judged Refused bytes run means = absurd run
 run_is_judged ReadFault bytes run means = absurd run
 run_is_judged TooLong bytes run means = absurd run
 
-run_text : (id ce : ℕ) (end : ElementEnd) (bytes : List ℕ) (events : List HubEvent) → IsRun end → element_text id ce end [] events ≡ element_text id ce end bytes events
-run_text id ce Done bytes events run = refl
-run_text id ce Turns bytes events run = refl
-run_text id ce HubFault bytes events run = refl
-run_text id ce Refused bytes events run = absurd run
-run_text id ce ReadFault bytes events run = absurd run
-run_text id ce TooLong bytes events run = absurd run
+run_text : (n : NodeState) (end : ElementEnd) (bytes : List ℕ) (events : List HubEvent) → IsRun end → element_text n end [] events ≡ element_text n end bytes events
+run_text n Done bytes events run = refl
+run_text n Turns bytes events run = refl
+run_text n HubFault bytes events run = refl
+run_text n Refused bytes events run = absurd run
+run_text n ReadFault bytes events run = absurd run
+run_text n TooLong bytes events run = absurd run
 
-pub library_ends : (how : Result ElementEnd Stop) (id ce turns : ℕ) (bytes : List ℕ) (old new : Option Held) (text now : Option (List ℕ))
-    → MeansLibrary bytes → RunEnds id ce turns how old new text now → DocumentEnds id ce turns bytes how old new text now
-library_ends how id ce turns bytes old new text now means ends =
-    widened ElementEnd (RunWent id ce turns old new) (DocumentWent id ce turns bytes old new) (HubLacked id ce turns old new) (DocumentLacked id ce turns bytes old new) how text now
-    (λ end written went. (went.0, run_is_whole end went.1, run_is_judged end bytes went.1 means, went.2, went.3 ∙ run_text id ce end bytes went.0 went.1))
+node_ends : (how : Result ElementEnd Stop) (id ce turns : ℕ) (bytes : List ℕ) (old new : Option Held) (text now : Option (List ℕ))
+    → MeansLibrary bytes → RunEnds (node_by id ce bytes) turns how old new text now → DocumentEnds id ce turns bytes how old new text now
+node_ends how id ce turns bytes old new text now means ends =
+    let n = node_by id ce bytes in
+    widened ElementEnd (RunWent n turns old new) (DocumentWent id ce turns bytes old new) (HubLacked n turns old new) (DocumentLacked id ce turns bytes old new) how text now
+    (λ end written went. (went.0, run_is_whole end went.1, run_is_judged end bytes went.1 means, went.2, went.3 ∙ run_text n end bytes went.0 went.1))
     (λ lacked. inr (means, lacked)) ends
 
+pub library_ends : (how : Result ElementEnd Stop) (id ce turns : ℕ) (bytes : List ℕ) (library : List Class) (instances : List (ℕ × ℕ)) (old new : Option Held) (text now : Option (List ℕ))
+    → GivesLibrary (Ok (library, instances)) (library_of bytes) → RunEnds (first_node id ce library instances) turns how old new text now → DocumentEnds id ce turns bytes how old new text now
+library_ends how id ce turns bytes library instances old new text now (pairs, is, moved, order) ends =
+    let same : node_by id ce bytes ≡ first_node id ce library instances = ap (node_given id ce) is ∙ ap (λ e. node e empty) (opened_same id ce library pairs instances moved) in
+    node_ends how id ce turns bytes old new text now ((library, pairs), is) (subst (λ (n : NodeState). RunEnds n turns how old new text now) (sym same) ends)
+
 -- the report was not written whole
-pub run_stops : (stop : Stop) (end : ElementEnd) (id ce turns : ℕ) (events : List HubEvent) (old new : Option Held) (text now : Option (List ℕ)) (written : List ℕ)
-    → IsRun end → ActedSo id ce turns end events old new → written ≡ element_text id ce end [] events → AppendsFront text now written
-    → RunEnds id ce turns (Err stop) old new text now
-run_stops stop end id ce turns events old new text now written run acted is front =
-    cut_short ElementEnd (RunWent id ce turns old new) (HubLacked id ce turns old new) stop end text now written (events, run, acted, is) front
+pub run_stops : (stop : Stop) (end : ElementEnd) (n : NodeState) (turns : ℕ) (events : List HubEvent) (old new : Option Held) (text now : Option (List ℕ)) (written : List ℕ)
+    → IsRun end → ActedSo n turns end events old new → written ≡ element_text n end [] events → AppendsFront text now written
+    → RunEnds n turns (Err stop) old new text now
+run_stops stop end n turns events old new text now written run acted is front =
+    cut_short ElementEnd (RunWent n turns old new) (HubLacked n turns old new) stop end text now written (events, run, acted, is) front
 
 -- the report on the element that was served was not written whole
-pub report_stops : (stop : Stop) (how : Served) (id ce turns : ℕ) (first last : NodeState) (old new : Option Held) (text now : Option (List ℕ)) (written : List ℕ)
-    → ServeEnds (Ok how) turns first last old new → first ≡ first_node id ce → written ≡ report_of last.element → AppendsFront text now written
-    → RunEnds id ce turns (Err stop) old new text now
-report_stops stop served.Over id ce turns first last old new text now written (events, few, went, all, after) begun is front =
-    run_stops stop Done id ce turns events old new text now written tt (few, rw begun at went, all)
-    (is ∙ ap (λ n. report_of n.element) (after ∙ ap (λ n. node_after n events) begun)) front
-report_stops stop served.Turns id ce turns first last old new text now written (events, count, went, after) begun is front =
-    run_stops stop Turns id ce turns events old new text now written tt (count, rw begun at went)
-    (is ∙ ap (λ n. report_of n.element) (after ∙ ap (λ n. node_after n events) begun)) front
+pub report_stops : (stop : Stop) (how : Served) (n : NodeState) (turns : ℕ) (first last : NodeState) (old new : Option Held) (text now : Option (List ℕ)) (written : List ℕ)
+    → ServeEnds (Ok how) turns first last old new → first ≡ n → written ≡ report_of last.element → AppendsFront text now written
+    → RunEnds n turns (Err stop) old new text now
+report_stops stop served.Over n turns first last old new text now written (events, few, went, all, after) begun is front =
+    run_stops stop Done n turns events old new text now written tt (few, rw begun at went, all)
+    (is ∙ ap (λ (m : NodeState). report_of m.element) (after ∙ ap (λ (m : NodeState). node_after m events) begun)) front
+report_stops stop served.Turns n turns first last old new text now written (events, count, went, after) begun is front =
+    run_stops stop Turns n turns events old new text now written tt (count, rw begun at went)
+    (is ∙ ap (λ (m : NodeState). report_of m.element) (after ∙ ap (λ (m : NodeState). node_after m events) begun)) front
 
 -- memory lacked while the element was served
-pub run_lacks : (stop : NodeStop) (id ce turns : ℕ) (first : NodeState) (old new : Option Held) (known : Option (List ℕ))
-    → (events : List HubEvent) × (length events < turns) × Broke stop old new first events → stop ≡ node_stop.NoMemory → first ≡ first_node id ce → RunEnds id ce turns (Err NoMemory) old new known known
-run_lacks stop id ce turns first old new known (events, few, broke) lacked begun = inr (inr (events, few, rw (lacked, begun) at broke), Appends-nil known)
+pub run_lacks : (stop : NodeStop) (n : NodeState) (turns : ℕ) (first : NodeState) (old new : Option Held) (known : Option (List ℕ))
+    → (events : List HubEvent) × (length events < turns) × Broke stop old new first events → stop ≡ node_stop.NoMemory → first ≡ n → RunEnds n turns (Err NoMemory) old new known known
+run_lacks stop n turns first old new known (events, few, broke) lacked begun = inr (inr (events, few, rw (lacked, begun) at broke), Appends-nil known)
 
 -- the document means none, for a fault that is told
 pub fault_meant : (f : LibFault) (bytes : List ℕ) → f ≢ fault.Memory → Gives (Err f) (library_of bytes) → library_of bytes ≡ Err f

@@ -4,7 +4,7 @@ use Rattle.std.proofs.lemmas.List.{map-append}
 use Rattle.fc_hub.specs.declared.event.HubEvent.{HubEvent}
 use Rattle.fc_hub.specs.declared.event.HubEvent.TheVariants.{Bytes}
 use Rattle.fc_hub.specs.declared.event.Act.{Act}
-use Rattle.fc_tool.specs.ElementNode.{Move, NodeState, acts_of, first_node, node_after, node_step, numbered}
+use Rattle.fc_tool.specs.ElementNode.{Move, NodeState, acts_of, node_after, node_step, numbered}
 use Rattle.fc_tool.specs.Pieces.{AreAlike, MakeTheSame, unnumbered}
 use Rattle.fc_tool.proofs.Pieces.{bytes_alike}
 
@@ -52,13 +52,13 @@ behind n before these those state acts =
       acts = λ taken. is_plain taken n (before ++ these) ∙ done ∙ sym (is_plain taken n (before ++ those));
     }
 
-pub run_alike : (id ce : ℕ) (before after : List HubEvent) (peer : ℕ) (front back : List ℕ)
-    → MakeTheSame (first_node id ce) (before ++ Bytes peer front ∷ Bytes peer back ∷ after) (before ++ Bytes peer (front ++ back) ∷ after)
-run_alike id ce before after peer front back =
-    let n = node_after (first_node id ce) before in
+pub run_alike : (first : NodeState) (before after : List HubEvent) (peer : ℕ) (front back : List ℕ)
+    → MakeTheSame first (before ++ Bytes peer front ∷ Bytes peer back ∷ after) (before ++ Bytes peer (front ++ back) ∷ after)
+run_alike first before after peer front back =
+    let n = node_after first before in
     let one = node_step n (Bytes peer front) in
     let two = node_step one.state (Bytes peer back) in
     let whole = node_step n (Bytes peer (front ++ back)) in
     let alike = bytes_alike n peer front back in
-    behind (first_node id ce) before (Bytes peer front ∷ Bytes peer back ∷ after) (Bytes peer (front ++ back) ∷ after)
+    behind first before (Bytes peer front ∷ Bytes peer back ∷ after) (Bytes peer (front ++ back) ∷ after)
     (ap (λ s. node_after s after) alike.state) (alike_acts one two whole after alike)

@@ -1,8 +1,8 @@
 -- Two runs of `element` over events that make the same of a node have one ending, with the same acts and the same text.
-use Rattle.std.proofs.Common.{◌≡◌, ◌++◌, ◌∷◌, ℕ, List, refl, sym, ap, ◌∙◌, Option, None, Some, Result, Ok, Err}
+use Rattle.std.proofs.Common.{◌≡◌, ◌++◌, ◌∷◌, ℕ, List, refl, sym, ap, subst, ◌∙◌, Option, None, Some, Result, Ok, Err}
 use Rattle.std.proofs.lemmas.List.{map-append}
 use Rattle.std.specs.Io.KnownBytes.{Appends}
-use Rattle.fc_element.specs.ElementMachine.{report_of}
+use Rattle.fc_element.specs.Reports.{report_of}
 use Rattle.fc_hub.specs.Hubs.{Held, holds}
 use Rattle.fc_hub.specs.declared.event.Act.{Act}
 use Rattle.fc_hub.specs.declared.event.HubEvent.{HubEvent}
@@ -12,12 +12,13 @@ use Rattle.fc_tool.specs.declared.element.ElementEnd.{ElementEnd}
 use Rattle.fc_tool.specs.declared.element.ElementEnd.TheVariants.{Done, ReadFault, HubFault, Refused, Turns, TooLong}
 use Rattle.fc_tool.specs.declared.stops.Stop.{Stop}
 use Rattle.fc_tool.specs.Acting.{Went}
-use Rattle.fc_tool.specs.ElementNode.{acts_of, first_node, node_after}
+use Rattle.fc_tool.specs.ElementNode.{NodeState, acts_of, node_after, node_by}
 use Rattle.fc_tool.specs.ElementRun.{ElementEnds, refused_text, report_after}
 use Rattle.fc_tool.specs.Pieces.{MakeTheSame, unnumbered}
 use Rattle.fc_tool.specs.RunsAlike.{EndAlike, IsRunOut, acts_held}
 use Rattle.fc_tool.proofs.Outcomes.{library_or_none, read_twice, whole_long}
 use Rattle.fc_tool.proofs.Runs.{run_alike}
+use Rattle.fc_tool.proofs.Verdicts.{all_read}
 
 -- the same was appended to the same
 same_text : (old : List ℕ) (new other : Option (List ℕ)) (s t : List ℕ) → Appends (Some old) new s → Appends (Some old) other t → s ≡ t → new ≡ other
@@ -26,24 +27,28 @@ same_text old (Some new) None s t one two is = absurd two
 same_text old (Some new) (Some other) s t one two is = ap Some (one ∙ ap (λ l. old ++ l) is ∙ sym two)
 
 -- the acts that were done before, and those of all events
-acts_went : (coming events : List HubEvent) (taken id ce : ℕ) (done : List (ℕ × Act)) (new : Option Held) → coming ≡ events
-    → Went (Some (holds coming taken done)) new (first_node id ce) events
-    → acts_held new ≡ Some (unnumbered done ++ unnumbered (acts_of taken (first_node id ce) coming))
-acts_went coming events taken id ce done new all (more, split, is) =
-    ap acts_held is ∙ ap Some (map-append (λ act. act.1) done (acts_of taken (first_node id ce) events))
-    ∙ ap (λ es. Some (unnumbered done ++ unnumbered (acts_of taken (first_node id ce) es))) (sym all)
+acts_went : (coming events : List HubEvent) (taken : ℕ) (n : NodeState) (done : List (ℕ × Act)) (new : Option Held) → coming ≡ events
+    → Went (Some (holds coming taken done)) new n events
+    → acts_held new ≡ Some (unnumbered done ++ unnumbered (acts_of taken n coming))
+acts_went coming events taken n done new all (more, split, is) =
+    ap acts_held is ∙ ap Some (map-append (λ act. act.1) done (acts_of taken n events))
+    ∙ ap (λ es. Some (unnumbered done ++ unnumbered (acts_of taken n es))) (sym all)
 
 runs_alike : (one other : Result ElementEnd Stop) (limit id ce turns : ℕ) (document : List ℕ) (these those : List HubEvent) (taken : ℕ) (done : List (ℕ × Act)) (l k : Option (List ℕ)) (first second : Option Held)
-    (old : List ℕ) (new renewed : Option (List ℕ)) → MakeTheSame (first_node id ce) these those → IsRunOut one → IsRunOut other
+    (old : List ℕ) (new renewed : Option (List ℕ)) → MakeTheSame (node_by id ce document) these those → IsRunOut one → IsRunOut other
     → ElementEnds limit id ce turns one (Some document) l (Some (holds these taken done)) first (Some old) new
     → ElementEnds limit id ce turns other (Some document) k (Some (holds those taken done)) second (Some old) renewed
     → EndAlike one other first second new renewed
 runs_alike (Ok Done) (Ok Done) limit id ce turns document these those taken done l k first second old new renewed same a b (said, (bytes, events, seen, judged, (few, went, all), is), wrote) (told, (read, others, looked, weighed, (less, goes, whole), says), writes) =
+    let n = node_by id ce document in
+    let here : node_by id ce bytes ≡ n = sym (ap (node_by id ce) (all_read document bytes l seen.0 seen.1)) in
+    let there : node_by id ce read ≡ n = sym (ap (node_by id ce) (all_read document read k looked.0 looked.1)) in
     record {
       status = refl;
-      acts = acts_went these events taken id ce done first all went ∙ ap (λ acts. Some (unnumbered done ++ acts)) (same.acts taken) ∙ sym (acts_went those others taken id ce done second whole goes);
+      acts = acts_went these events taken n done first all (subst (λ (m : NodeState). Went (Some (holds these taken done)) first m events) here went) ∙ ap (λ acts. Some (unnumbered done ++ acts)) (same.acts taken)
+          ∙ sym (acts_went those others taken n done second whole (subst (λ (m : NodeState). Went (Some (holds those taken done)) second m others) there goes));
       text = same_text old new renewed _ _ wrote writes
-          (is ∙ ap (report_after id ce) (sym all) ∙ ap (λ n. report_of n.element) same.state ∙ ap (report_after id ce) whole ∙ sym says);
+          (is ∙ ap (λ (m : NodeState). report_after m events) here ∙ ap (report_after n) (sym all) ∙ ap (λ m. report_of m.element) same.state ∙ ap (report_after n) whole ∙ sym (says ∙ ap (λ (m : NodeState). report_after m others) there));
     }
 runs_alike (Ok Refused) (Ok Refused) limit id ce turns document these those taken done l k first second old new renewed same a b (said, (bytes, events, seen, judged, kept, is), wrote) (told, (read, others, looked, weighed, stays, says), writes) =
     record {
@@ -87,4 +92,4 @@ pub cut_alike : (limit id ce turns : ℕ) (document : List ℕ) (before after : 
     → EndAlike one other first second new renewed
 cut_alike limit id ce turns document before after peer front back taken done one other l k first second old new renewed a b x y =
     runs_alike one other limit id ce turns document (before ++ Bytes peer front ∷ Bytes peer back ∷ after) (before ++ Bytes peer (front ++ back) ∷ after) taken done l k first second old new renewed
-    (run_alike id ce before after peer front back) a b x y
+    (run_alike (node_by id ce document) before after peer front back) a b x y

@@ -1,6 +1,6 @@
 -- A forwarding element behind a hub: which acts it makes of the events that it takes, in which order. This profile's own,
 -- over RFC 5810, section 6.1, on the frames of a stream.
-use Rattle.std.specs.Prelude.{ℕ, ◌+◌, Bool, true, false, nat_lt, if◌then◌else◌, List, [], ◌∷◌, ◌++◌, map, Option, Some, None, refl}
+use Rattle.std.specs.Prelude.{ℕ, ◌+◌, Bool, true, false, nat_lt, if◌then◌else◌, List, [], ◌∷◌, ◌++◌, map, Option, Some, None, Result, Ok, Err, refl}
 use Rattle.std.specs.Coded.{Coded, code_by, coded×}
 use Rattle.std.specs.FinMap.{empty, get, insert, len, remove}
 use Rattle.fc_hub.specs.declared.event.HubEvent.{HubEvent}
@@ -14,6 +14,9 @@ use Rattle.fc_element.specs.declared.input.ElIn.TheVariants.{Opened, Arrived, Cl
 use Rattle.fc_element.specs.declared.input.Out.{Out}
 use Rattle.fc_element.specs.ElementMachine.{Turn, step}
 use Rattle.fc_element.specs.ElementState.{ElementState, opened, state_code}
+use Rattle.fc_library.specs.Documents.{library_of}
+use Rattle.fc_library.specs.declared.fault.LibFault.{LibFault}
+use Rattle.fc_types.specs.declared.class.Class.{Class}
 use Rattle.fc_tool.specs.OpenPeers.{PeerMap, peer_map_code}
 use Rattle.fc_tool.specs.Streams.{frames, rest}
 
@@ -107,5 +110,14 @@ acts_of taken n [] = []
 acts_of taken n (e ∷ es) = numbered (taken + 1) (node_step n e).acts ++ acts_of (taken + 1) (node_step n e).state es
 
 -- the node of an element that was just made
-abbrev pub first_node : ℕ → ℕ → NodeState
-first_node id ce = node (opened id ce) empty
+abbrev pub first_node : ℕ → ℕ → List Class → List (ℕ × ℕ) → NodeState
+first_node id ce library instances = node (opened id ce library instances) empty
+
+-- the same, with a library and instances as they are given; where none are given, without any
+abbrev pub node_given : ℕ → ℕ → Result (List Class × List (ℕ × ℕ)) LibFault → NodeState
+node_given id ce (Ok given) = first_node id ce given.0 given.1
+node_given id ce (Err fault) = first_node id ce [] []
+
+-- the same, with the library that the bytes of a document mean
+abbrev pub node_by : ℕ → ℕ → List ℕ → NodeState
+node_by id ce bytes = node_given id ce (library_of bytes)

@@ -5,7 +5,7 @@ use Rattle.fc_base.specs.Causes.{Rose}
 use Rattle.fc_hub.specs.Hubs.{Held}
 use Rattle.fc_hub.specs.declared.event.HubEvent.{HubEvent}
 use Rattle.fc_base.specs.declared.faults.Memory.{Memory}
-use Rattle.fc_element.specs.ElementMachine.{report_of}
+use Rattle.fc_element.specs.Reports.{report_of}
 use Rattle.fc_library.specs.Documents.{library_of}
 use Rattle.fc_library.specs.Refusals.{refusal_text}
 use Rattle.fc_library.specs.declared.fault.LibFault.{LibFault}
@@ -17,7 +17,7 @@ use Rattle.fc_tool.specs.declared.input.Look.TheVariants as look
 use Rattle.fc_tool.specs.declared.stops.Stop.{Stop}
 use Rattle.fc_tool.specs.declared.acting.NodeStop.TheVariants as stop
 use Rattle.fc_tool.specs.Acting.{AreAll, Broke, Went}
-use Rattle.fc_tool.specs.ElementNode.{first_node, node_after}
+use Rattle.fc_tool.specs.ElementNode.{NodeState, node_after, node_by}
 use Rattle.fc_tool.specs.Endings.{CommandEnds}
 use Rattle.fc_tool.specs.Stops.{stop_status}
 
@@ -48,9 +48,9 @@ abbrev pub refused_text : Result (List Class × List (ℕ × ℕ)) LibFault → 
 refused_text (Ok given) = []
 refused_text (Err fault) = refusal_text (codes "library") fault
 
--- the report on the element once these events were taken
-abbrev pub report_after : ℕ → ℕ → List HubEvent → List ℕ
-report_after id ce events = report_of (node_after (first_node id ce) events).element
+-- the report on the element of a node once these events were taken
+abbrev pub report_after : NodeState → List HubEvent → List ℕ
+report_after n events = report_of (node_after n events).element
 
 -- the endings in which nothing failed
 abbrev pub IsOutcome : ElementEnd → Type 0
@@ -79,44 +79,43 @@ JudgedSo Refused bytes = MeansNone bytes
 JudgedSo ReadFault bytes = ⊤
 JudgedSo TooLong bytes = ⊤
 
--- what was done on the hub where `element` ends so, of these events
-abbrev pub ActedSo : ℕ → ℕ → ℕ → ElementEnd → List HubEvent → Option Held → Option Held → Type 0
+-- what was done on the hub where `element` ends so, of these events, with the node that it begins with
+abbrev pub ActedSo : NodeState → ℕ → ElementEnd → List HubEvent → Option Held → Option Held → Type 0
 -- the hub has no more events: all of them were taken, fewer than are to be taken
-ActedSo id ce turns Done events old new = (length events < turns) × Went old new (first_node id ce) events × AreAll old events
+ActedSo n turns Done events old new = (length events < turns) × Went old new n events × AreAll old events
 -- so many events were taken as are to be taken
-ActedSo id ce turns Turns events old new = (length events ≡ turns) × Went old new (first_node id ce) events
+ActedSo n turns Turns events old new = (length events ≡ turns) × Went old new n events
 -- the hub failed: the acts of the events before stand, and a front of those of the last, but not all
-ActedSo id ce turns HubFault events old new = (length events < turns) × Broke stop.HubFault old new (first_node id ce) events
+ActedSo n turns HubFault events old new = (length events < turns) × Broke stop.HubFault old new n events
 -- the input means no library, or can't be read: nothing was done
-ActedSo id ce turns Refused events old new = new ≡ old
-ActedSo id ce turns ReadFault events old new = new ≡ old
-ActedSo id ce turns TooLong events old new = new ≡ old
+ActedSo n turns Refused events old new = new ≡ old
+ActedSo n turns ReadFault events old new = new ≡ old
+ActedSo n turns TooLong events old new = new ≡ old
 
 -- what is written where `element` ends so
-abbrev pub element_text : ℕ → ℕ → ElementEnd → List ℕ → List HubEvent → List ℕ
-element_text id ce Done bytes events = report_after id ce events
-element_text id ce Turns bytes events = report_after id ce events
-element_text id ce HubFault bytes events = []
-element_text id ce Refused bytes events = refused_text (library_of bytes)
-element_text id ce ReadFault bytes events = []
-element_text id ce TooLong bytes events = []
+abbrev pub element_text : NodeState → ElementEnd → List ℕ → List HubEvent → List ℕ
+element_text n Done bytes events = report_after n events
+element_text n Turns bytes events = report_after n events
+element_text n HubFault bytes events = []
+element_text n Refused bytes events = refused_text (library_of bytes)
+element_text n ReadFault bytes events = []
+element_text n TooLong bytes events = []
 
 -- `element` came to an end over an input of which so many bytes are looked at, and over these events, and this is to be written
 abbrev pub ElementWent : ℕ → ℕ → ℕ → ℕ → Option (List ℕ) → Option (List ℕ) → Option Held → Option Held → ElementEnd → List ℕ → Type 0
 ElementWent limit id ce turns before left old new end written =
-    (bytes : List ℕ) × (events : List HubEvent) × LookEnds limit (Ok (look_of end)) bytes before left × JudgedSo end bytes × ActedSo id ce turns end events old new
-    × (written ≡ element_text id ce end bytes events)
+    (bytes : List ℕ) × (events : List HubEvent) × LookEnds limit (Ok (look_of end)) bytes before left × JudgedSo end bytes
+    × ActedSo (node_by id ce bytes) turns end events old new × (written ≡ element_text (node_by id ce bytes) end bytes events)
 
 -- out of memory over the hub: before the first event, or over one that is among those to be taken
-abbrev pub HubLacked : ℕ → ℕ → ℕ → Option Held → Option Held → Type 0
-HubLacked id ce turns old new =
-    (new ≡ old) ⊎ ((events : List HubEvent) × (length events < turns) × Broke stop.NoMemory old new (first_node id ce) events)
+abbrev pub HubLacked : NodeState → ℕ → Option Held → Option Held → Type 0
+HubLacked n turns old new = (new ≡ old) ⊎ ((events : List HubEvent) × (length events < turns) × Broke stop.NoMemory old new n events)
 
 -- out of memory before it came to an end: while the input was read and judged, or over the hub
 abbrev pub ElementLacked : ℕ → ℕ → ℕ → ℕ → Option (List ℕ) → Option (List ℕ) → Option Held → Option Held → Type 0
 ElementLacked limit id ce turns before left old new =
     ((bytes : List ℕ) × Consumes before left bytes × (length bytes ≤ limit) × (new ≡ old))
-    ⊎ ((bytes : List ℕ) × LookEnds limit (Ok look.Whole) bytes before left × MeansLibrary bytes × HubLacked id ce turns old new)
+    ⊎ ((bytes : List ℕ) × LookEnds limit (Ok look.Whole) bytes before left × MeansLibrary bytes × HubLacked (node_by id ce bytes) turns old new)
 
 -- How `element` ends: what was read, what was done on the hub, and what was written.
 abbrev pub ElementEnds : ℕ → ℕ → ℕ → ℕ → Result ElementEnd Stop → Option (List ℕ) → Option (List ℕ) → Option Held → Option Held → Option (List ℕ) → Option (List ℕ) → Type 0
@@ -126,11 +125,11 @@ ElementEnds limit id ce turns how before left old new text now =
 -- the same of the hub and of what was written alone, once the input was read whole
 abbrev pub DocumentWent : ℕ → ℕ → ℕ → List ℕ → Option Held → Option Held → ElementEnd → List ℕ → Type 0
 DocumentWent id ce turns bytes old new end written =
-    (events : List HubEvent) × (look_of end ≡ look.Whole) × JudgedSo end bytes × ActedSo id ce turns end events old new
-    × (written ≡ element_text id ce end bytes events)
+    (events : List HubEvent) × (look_of end ≡ look.Whole) × JudgedSo end bytes × ActedSo (node_by id ce bytes) turns end events old new
+    × (written ≡ element_text (node_by id ce bytes) end bytes events)
 
 abbrev pub DocumentLacked : ℕ → ℕ → ℕ → List ℕ → Option Held → Option Held → Type 0
-DocumentLacked id ce turns bytes old new = (new ≡ old) ⊎ (MeansLibrary bytes × HubLacked id ce turns old new)
+DocumentLacked id ce turns bytes old new = (new ≡ old) ⊎ (MeansLibrary bytes × HubLacked (node_by id ce bytes) turns old new)
 
 abbrev pub DocumentEnds : ℕ → ℕ → ℕ → List ℕ → Result ElementEnd Stop → Option Held → Option Held → Option (List ℕ) → Option (List ℕ) → Type 0
 DocumentEnds id ce turns bytes how old new text now =
@@ -145,13 +144,13 @@ IsRun Refused = ⊥
 IsRun ReadFault = ⊥
 IsRun TooLong = ⊥
 
--- the same once the document was seen to mean a library, whatever its bytes are
-abbrev pub RunWent : ℕ → ℕ → ℕ → Option Held → Option Held → ElementEnd → List ℕ → Type 0
-RunWent id ce turns old new end written =
-    (events : List HubEvent) × IsRun end × ActedSo id ce turns end events old new × (written ≡ element_text id ce end [] events)
+-- the same once the document was seen to mean a library, whatever its bytes are, with the node of an element with that
+abbrev pub RunWent : NodeState → ℕ → Option Held → Option Held → ElementEnd → List ℕ → Type 0
+RunWent n turns old new end written =
+    (events : List HubEvent) × IsRun end × ActedSo n turns end events old new × (written ≡ element_text n end [] events)
 
-abbrev pub RunEnds : ℕ → ℕ → ℕ → Result ElementEnd Stop → Option Held → Option Held → Option (List ℕ) → Option (List ℕ) → Type 0
-RunEnds id ce turns how old new text now = CommandEnds ElementEnd (RunWent id ce turns old new) (HubLacked id ce turns old new) how text now
+abbrev pub RunEnds : NodeState → ℕ → Result ElementEnd Stop → Option Held → Option Held → Option (List ℕ) → Option (List ℕ) → Type 0
+RunEnds n turns how old new text now = CommandEnds ElementEnd (RunWent n turns old new) (HubLacked n turns old new) how text now
 
 -- the ends that tell that the input can't be read, and that the hub failed
 abbrev pub is_unread : ElementEnd → Bool

@@ -3,7 +3,7 @@ ghost use Rattle.std.specs.Prelude.{◌≡◌, true, IfOk, IfErr, OnOk};
 ghost use Rattle.fc_wire.specs.Frames.{without_first};
 ghost use Rattle.fc_tool.specs.Acting.{Acts, ActsUntil, HubCount};
 ghost use Rattle.fc_tool.specs.ElementNode.{hears};
-ghost use Rattle.fc_tool.specs.Nexts.{IsNextOf};
+ghost use Rattle.fc_tool.specs.Nexts.{IsNextOf, IsProperNext};
 ghost use Rattle.fc_tool.specs.Streams.{frames, rest};
 
 use crate::acting::{NodeStop, shut};
@@ -64,6 +64,7 @@ pub enum Next {
 fn next_message(alloc: Global, splitter: &mut Splitter) -> Result<Next, Memory>
     ensures next { IfOk result (λ next. IsNextOf splitter.old next) }
     ensures left { splitter.new ≡ without_first splitter.old }
+    ensures proper { IfOk result IsProperNext }
 {
     let Some(frame) = splitter.next() else {
         return Ok(Next::Nothing);

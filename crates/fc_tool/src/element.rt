@@ -1,10 +1,13 @@
 // The command `element`.
-ghost use Rattle.std.specs.Prelude.{◌≡◌, ◌≢◌, codes, OnOk, OnErr};
+ghost use Rattle.std.specs.Prelude.{◌≡◌, ◌≢◌, codes, true, OnOk, OnErr};
+ghost use Rattle.std.specs.List.{list_all};
 ghost use Rattle.std.specs.Io.KnownBytes.{Appends};
 ghost use Rattle.fc_base.specs.Content.{AppendsFront};
-ghost use Rattle.fc_element.specs.ElementMachine.{report_of};
+ghost use Rattle.fc_element.specs.Reports.{report_of};
 ghost use Rattle.fc_library.specs.Refusals.{refusal_text};
 ghost use Rattle.fc_library.specs.declared.fault.LibFault.TheVariants as faults;
+ghost use Rattle.fc_types.specs.Libraries.{AreKnown, is_own};
+ghost use Rattle.fc_tool.specs.ElementNode.{first_node};
 ghost use Rattle.fc_tool.specs.ElementRun.{DocumentEnds, ElementEnds, RunEnds, is_unread, is_unserved};
 ghost use Rattle.fc_tool.specs.Endings.{EndCount};
 ghost use Rattle.fc_tool.specs.Limits.{most_bytes};
@@ -19,6 +22,7 @@ use fc_base::{CeId, FeId, Sink, Source};
 use fc_element::Element;
 use fc_hub::Hub;
 use fc_library::{LibFault, library_from_slice, refusal};
+use fc_types::{Instances, Library};
 use std::alloc::Global;
 
 /// How `element` ended, where all was written.
@@ -101,7 +105,9 @@ fn declared_element<K: Sink, H: Hub>(
     ensures sink { SinkCount result (K.faults out.old) (K.faults out.new) }
 {
     match library_from_slice(alloc, document) {
-        Ok(_) => run_element(alloc, fe, ce, turns, out, hub),
+        Ok((library, instances)) => {
+            run_element(alloc, fe, ce, library, instances, turns, out, hub)
+        }
         Err(LibFault::Memory) => Err(Stop::NoMemory),
         Err(fault) => match put_refusal(alloc, &fault, out) {
             Ok(()) => Ok(ElementEnd::Refused),
@@ -129,16 +135,20 @@ fn run_element<K: Sink, H: Hub>(
     alloc: Global,
     fe: FeId,
     ce: CeId,
+    library: Library,
+    instances: Instances,
     turns: u32,
     out: &mut K,
     hub: &mut H,
 ) -> Result<ElementEnd, Stop>
-    ensures ends { RunEnds fe ce turns result (H.held hub.old) (H.held hub.new) (K.written out.old) (K.written out.new) }
+    requires absent { list_all is_own library ≡ true }
+    requires known { AreKnown library instances }
+    ensures ends { RunEnds (first_node fe ce library instances) turns result (H.held hub.old) (H.held hub.new) (K.written out.old) (K.written out.new) }
     ensures unflushed { K.flushed out.new ≡ K.flushed out.old }
     ensures hub { EndCount is_unserved result (H.faults hub.old) (H.faults hub.new) }
     ensures sink { SinkCount result (K.faults out.old) (K.faults out.new) }
 {
-    let Ok(mut node) = Node::new(alloc, fe, ce) else {
+    let Ok(mut node) = Node::new(alloc, fe, ce, library, instances) else {
         return Err(Stop::NoMemory);
     };
     match serve(&mut node, hub, turns) {

@@ -1,6 +1,6 @@
 // An input of an element, and the acts that it makes.
 ghost use Rattle.std.specs.Prelude.{◌≡◌, OnOk, IfErr};
-ghost use Rattle.fc_element.specs.ElementMachine.{step};
+ghost use Rattle.fc_element.specs.ElementMachine.{IsProperIn, step};
 ghost use Rattle.fc_tool.specs.Acting.{Acts, ActsUntil, HubCount};
 ghost use Rattle.fc_tool.specs.ElementNode.{sent};
 
@@ -17,6 +17,7 @@ pub fn give<H: Hub>(
     element: &mut Element,
     input: ElIn,
 ) -> Result<(), NodeStop>
+    requires { IsProperIn input }
     ensures ok { OnOk result (element.new ≡ (step element.old input).state) }
     ensures acts { OnOk result (Acts (H.held hub.old) (H.held hub.new) (sent (step element.old input).outs)) }
     ensures err { IfErr result (λ stop. ActsUntil stop (H.held hub.old) (H.held hub.new) (sent (step element.old input).outs)) }

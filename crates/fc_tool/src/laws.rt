@@ -15,7 +15,7 @@ ghost use Rattle.fc_hub.specs.declared.event.Act.{Act};
 ghost use Rattle.fc_hub.specs.declared.event.HubEvent.{HubEvent};
 ghost use Rattle.fc_hub.specs.declared.event.HubEvent.TheVariants.{Bytes};
 ghost use Rattle.fc_tool.specs.ElementRun.{ElementEnds, IsOutcome};
-ghost use Rattle.fc_tool.specs.ElementNode.{NodeState, first_node, node_step};
+ghost use Rattle.fc_tool.specs.ElementNode.{NodeState, node_step};
 ghost use Rattle.fc_tool.specs.Make.{IsTold, MakeEnds};
 ghost use Rattle.fc_tool.specs.Pieces.{AreAlike, MakeTheSame};
 ghost use Rattle.fc_tool.specs.RunsAlike.{EndAlike, IsRunOut};
@@ -62,8 +62,8 @@ pub fn element_ends_once()
 pub fn bytes_may_be_cut()
     ensures event { (n : NodeState) (peer : ℕ) (front back : List ℕ)
         → AreAlike (node_step n (Bytes peer front)) (node_step (node_step n (Bytes peer front)).state (Bytes peer back)) (node_step n (Bytes peer (front ++ back))) }
-    ensures run { (id ce : ℕ) (before after : List HubEvent) (peer : ℕ) (front back : List ℕ)
-        → MakeTheSame (first_node id ce) (before ++ Bytes peer front ∷ Bytes peer back ∷ after) (before ++ Bytes peer (front ++ back) ∷ after) }
+    ensures run { (n : NodeState) (before after : List HubEvent) (peer : ℕ) (front back : List ℕ)
+        → MakeTheSame n (before ++ Bytes peer front ∷ Bytes peer back ∷ after) (before ++ Bytes peer (front ++ back) ∷ after) }
     ensures status { (limit id ce turns : ℕ) (document : List ℕ) (before after : List HubEvent) (peer : ℕ) (front back : List ℕ) (taken : ℕ) (done : List (ℕ × Act)) (one other : Result ElementEnd Stop)
         (l k : Option (List ℕ)) (first second : Option Held) (old : List ℕ) (new renewed : Option (List ℕ)) → IsRunOut one → IsRunOut other
         → ElementEnds limit id ce turns one (Some document) l (Some (holds (before ++ Bytes peer front ∷ Bytes peer back ∷ after) taken done)) first (Some old) new

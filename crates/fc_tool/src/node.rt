@@ -1,5 +1,7 @@
 // A forwarding element behind a hub.
-ghost use Rattle.std.specs.Prelude.{◌≡◌, None, IfOk, OnOk, IfErr};
+ghost use Rattle.std.specs.Prelude.{◌≡◌, None, true, IfOk, OnOk, IfErr};
+ghost use Rattle.std.specs.List.{list_all};
+ghost use Rattle.fc_types.specs.Libraries.{AreKnown, is_own};
 ghost use Rattle.std.specs.FinMap.{get};
 ghost use Rattle.fc_tool.specs.Acting.{Acts, ActsUntil, HubCount};
 ghost use Rattle.fc_tool.specs.ElementNode.{first_node, node_step, on_bytes, on_closed, on_opened};
@@ -12,6 +14,7 @@ use fc_base::{CeId, FeId, Memory};
 use fc_element::{ElIn, Element};
 use fc_hub::{Hub, HubEvent};
 use fc_msg::Splitter;
+use fc_types::{Instances, Library};
 use std::alloc::Global;
 use std::marker::Model;
 
@@ -38,11 +41,19 @@ impl Model for Node {
 
 impl Node {
     /// The node of an element that was just made.
-    pub fn new(alloc: Global, id: FeId, ce: CeId) -> Result<Node, Memory>
-        ensures { IfOk result (λ node. node ≡ first_node id ce) }
+    pub fn new(
+        alloc: Global,
+        id: FeId,
+        ce: CeId,
+        library: Library,
+        instances: Instances,
+    ) -> Result<Node, Memory>
+        requires absent { list_all is_own library ≡ true }
+        requires known { AreKnown library instances }
+        ensures { IfOk result (λ node. node ≡ first_node id ce library instances) }
     {
         Ok(Node {
-            element: Element::new(alloc, id, ce)?,
+            element: Element::new(alloc, id, ce, library, instances)?,
             peers: Peers::new(alloc),
             alloc,
         })

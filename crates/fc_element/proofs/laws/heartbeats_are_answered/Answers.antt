@@ -2,4 +2,4 @@ use Rattle.fc_element.proofs.Sent.{answered}
 use Rattle.fc_element.proofs.laws.heartbeats_are_answered.Goals as goal
 
 pub returns : goal.returns
-returns c = λ id ce peer is m. answered id ce peer is m
+returns c = answered

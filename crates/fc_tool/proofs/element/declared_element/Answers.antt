@@ -3,7 +3,7 @@ use Rattle.fc_tool.proofs.Ending.{fault_meant, library_ends, refused_stops, refu
 use Rattle.fc_tool.proofs.element.declared_element.Goals as goal
 
 pub returns-in-Ok-clause-ends : goal.returns-in-Ok-clause-ends
-returns-in-Ok-clause-ends g c = library_ends c.run_element.result c.args.fe c.args.ce c.args.turns c.args.document.now _ _ _ _ (_, c.in-Ok.ensures.exact.1) c.run_element.ensures.ends
+returns-in-Ok-clause-ends g c = library_ends c.run_element.result c.args.fe c.args.ce c.args.turns c.args.document.now c.in-Ok.library c.in-Ok.instances _ _ _ _ c.in-Ok.ensures.exact c.run_element.ensures.ends
 
 pub returns : goal.returns
 returns g c = record {
