@@ -320,8 +320,8 @@ impl Element {
             && self.associations.len() != 0
     }
 
-    /// Appends the report: one line with the ID, the epoch, the master and the sequence, and a line for each component whose value is not
-    /// the one that it opened with. After an `Err` nothing has changed.
+    /// Appends the report: one line with the ID, the epoch, the control element and the sequence. It does not tell the configuration. After
+    /// an `Err` nothing has changed.
     pub fn report(&self, into: &mut Vec<u8>) -> Result<(), Memory>
         ensures ok { OnOk result (into.new.items ≡ into.old.items ++ report_of self.now) }
         ensures err { OnErr result (into.new.items ≡ into.old.items) }
