@@ -1,0 +1,69 @@
+"""A control element that configures the blocks of router.toml: it reads a port, sets its MTU, adds two routes, reads one back by its
+key, is refused a third with a key that is there, and deletes one. Each request and each answer is printed as text.
+
+Use: python3 examples/configure.py HOST PORT
+
+The element that it talks to is started as
+`crates/forces/out/forces element 2 40000001 HOST:PORT 1 1000 < examples/router.toml`.
+"""
+import socket
+import struct
+import sys
+
+import controller
+import forces
+
+PORT, TABLE = 0x2001, 0x2003
+ROUTES = 1
+
+
+def route(prefix, length, next_hop):
+    """An entry of the forwarding table: its prefix and length are its key."""
+    return socket.inet_aton(prefix) + struct.pack(">BIH", length, next_hop, 1)
+
+
+def key(prefix, length):
+    return 1, socket.inet_aton(prefix) + bytes([length])
+
+
+def get(lfb_class, path):
+    return "Query", forces.Select(lfb_class, 1, [forces.Operation("GET", [path])])
+
+
+def put(lfb_class, path):
+    return "Config", forces.Select(lfb_class, 1, [forces.Operation("SET", [path])])
+
+
+def delete(lfb_class, path):
+    return "Config", forces.Select(lfb_class, 1, [forces.Operation("DEL", [path])])
+
+
+REQUESTS = [
+    get(PORT, forces.Path([5])),
+    put(PORT, forces.Path([5], full=struct.pack(">H", 9000))),
+    get(PORT, forces.Path([5])),
+    put(TABLE, forces.Path([ROUTES, 1], full=route("10.0.0.0", 8, 7))),
+    put(TABLE, forces.Path([ROUTES, 2], full=route("192.0.2.0", 24, 8))),
+    get(TABLE, forces.Path([ROUTES], key=key("192.0.2.0", 24))),
+    put(TABLE, forces.Path([ROUTES, 3], full=route("10.0.0.0", 8, 9))),
+    delete(TABLE, forces.Path([ROUTES, 1])),
+    get(TABLE, forces.Path([ROUTES])),
+]
+
+# An answer is always wanted, and all operations of a Config are done or none.
+FLAGS = {"Query": 0xC0000000, "Config": 0xC0400000}
+
+
+def main():
+    with controller.connect(sys.argv[1], int(sys.argv[2])) as connection:
+        element = forces.receive(connection).sender
+        accepted = forces.Message("AssociationSetupResponse", controller.CONTROL, element, number=0)
+        connection.sendall(accepted.encode())
+        for count, (name, select) in enumerate(REQUESTS, start=1):
+            request = forces.Message(name, controller.CONTROL, element, count, FLAGS[name], selects=[select])
+            connection.sendall(request.encode())
+            print(forces.text(request) + forces.text(forces.receive(connection)))
+
+
+if __name__ == "__main__":
+    main()
