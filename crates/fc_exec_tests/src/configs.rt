@@ -87,8 +87,10 @@ pub(crate) fn refusal(alloc: Global, store: &Store, ids: &[u32]) -> Result<Optio
     let spot = spot(alloc, 4097, 1, ids)?;
     match store.at(&spot) {
         Ok(_) => Ok(None),
-        Err(OpFault::Refused(code)) => Ok(Some(code)),
-        Err(OpFault::Memory) => Err(Memory),
+        Err(fault) => match fault {
+            OpFault::Refused(code) => Ok(Some(code)),
+            OpFault::Memory => Err(Memory),
+        },
     }
 }
 
