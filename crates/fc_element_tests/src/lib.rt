@@ -1,5 +1,5 @@
-//! Tests of the layers of an element and of what the program stands on beside it: associations, the fence, records, the
-//! element itself, hubs and command lines.
+//! Tests of the layers of an element and of what the program stands on beside it: associations, the fence, records, hubs and
+//! command lines.
 #![tactic(auto)]
 
 #[cfg(test)]
@@ -9,13 +9,9 @@ mod commands;
 #[cfg(test)]
 mod copies;
 #[cfg(test)]
-mod elements;
-#[cfg(test)]
 mod fence;
 #[cfg(test)]
 mod hubs;
-#[cfg(test)]
-mod limits;
 #[cfg(test)]
 mod links;
 #[cfg(test)]
