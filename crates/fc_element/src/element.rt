@@ -12,7 +12,7 @@ ghost use Rattle.fc_blocks.specs.Settings.{settings_in as settings_of};
 
 use crate::config::{can_be_answered, execute, refusals};
 use crate::replies::{ALWAYS, answer, one, push_beats, query_answer, setup};
-use crate::report::report_line;
+use crate::report::{push_config, report_line};
 use crate::{ElIn, Out};
 use fc_assoc::Associations;
 use fc_base::{CeId, Code, FeId, List, Memory};
@@ -320,14 +320,17 @@ impl Element {
             && self.associations.len() != 0
     }
 
-    /// Appends the report: one line with the ID, the epoch, the control element and the sequence. It does not tell the configuration. After
-    /// an `Err` nothing has changed.
+    /// Appends the report: a line with the ID, the epoch, the control element and the sequence, and behind it the lines of the configuration,
+    /// by rising class, instance and component: `config CLASS INSTANCE ID BYTES` for each component whose value differs from its opening
+    /// one, with its full form in hexadecimal digits, or `absent`. What the element itself tells has no line. After an `Err` nothing has
+    /// changed.
     pub fn report(&self, into: &mut Vec<u8>) -> Result<(), Memory>
         ensures ok { OnOk result (into.new.items ≡ into.old.items ++ report_of self.now) }
         ensures err { OnErr result (into.new.items ≡ into.old.items) }
     {
-        let line = report_line(self.alloc, self.live.id, self.live.ce)?;
-        into.extend_from_slice(line.as_slice())?;
+        let mut text = report_line(self.alloc, self.live.id, self.live.ce)?;
+        push_config(&self.store, &mut text)?;
+        into.extend_from_slice(&text)?;
         Ok(())
     }
 }
