@@ -1,0 +1,90 @@
+// Associations, heartbeats and moments.
+use crate::tables::first_wrong;
+use fc_base::{Memory, eight_digits};
+use std::alloc::Global;
+use std::test::Fail;
+
+const HELD: &str = "\
+-- strangers are not answered, and what is no acceptance is none
+open 2 = 2 AssociationSetup
+Heartbeat C0000000 =
+AssociationSetupResponse 00000000 40000001 00000003 | result 0 =
+AssociationSetupResponse 00000000 | result 2 =
+Heartbeat C0000000 =
+Query 00000000 | lfb 00000001 00000001 | GET | path 7 =
+Config C0400000 | lfb 00000001 00000001 | SET | path 7 | full 00 =
+close 2 =
+element 2 epoch 0 ce 40000001 sequence 0
+
+-- a heartbeat that asks is answered until a teardown
+AssociationSetupResponse 00000000 | result 0 =
+Heartbeat C0000000 = 1 Heartbeat
+Heartbeat 40000000 =
+AssociationTeardown 00000000 | reason 0 =
+Heartbeat C0000000 =
+element 2 epoch 0 ce 40000001 sequence 0
+
+-- thirty seconds of silence are borne, and no more
+AssociationSetupResponse 00000000 | result 0 =
+moment 30000 =
+Heartbeat C0000000 = 1 Heartbeat
+moment 60001 =
+Heartbeat C0000000 =
+element 2 epoch 0 ce 40000001 sequence 0
+
+-- what is configured says how much silence is borne, and when heartbeats are sent
+AssociationSetupResponse 00000000 | result 0 =
+Config C0400000 | lfb 00000002 00000001 | SET | path 5 | full 00000010 | path 6 | full 01 | path 7 | full 00000002 = 1 ConfigResponse 00 00 00
+moment 1 =
+moment 2 = 1 Heartbeat
+moment 16 = 1 Heartbeat
+Heartbeat C0000000 = 1 Heartbeat
+moment 33 =
+Heartbeat C0000000 =
+element 2 epoch 0 ce 40000001 sequence 0
+config 00000002 00000001 5 00000010
+config 00000002 00000001 6 01
+config 00000002 00000001 7 00000002";
+
+#[test]
+fn an_association_is_held_by_heartbeats(rt: HostRuntime) -> Result<(), Fail> {
+    assert_eq!(rt; first_wrong(rt.alloc(), "", HELD, 65_536)?, None);
+    Ok(())
+}
+
+// A control element is accepted, and asks: it is answered, or not.
+fn push_control_element(case: &mut Vec<u8>, id: u32, answered: bool) -> Result<(), Memory> {
+    let digits = eight_digits(id);
+    case.extend_from_slice(b"AssociationSetupResponse 00000000 ")?;
+    case.extend_from_slice(&digits)?;
+    case.extend_from_slice(b" 00000002 | result 0 =\nHeartbeat C0000000 ")?;
+    case.extend_from_slice(&digits)?;
+    case.extend_from_slice(b" 00000002 =")?;
+    if answered {
+        case.extend_from_slice(b" 1 Heartbeat")?;
+    }
+    case.push(b'\n')?;
+    Ok(())
+}
+
+// As many control elements as may be associated, and six more; after too long a silence as many again.
+fn crowd(alloc: Global) -> Result<String, Fail> {
+    let mut case = Vec::new(alloc);
+    for number in 1..71u32 {
+        push_control_element(&mut case, 0x4000_0000 | number, number <= 64)?;
+    }
+    case.extend_from_slice(b"moment 30001 =\n")?;
+    for number in 101..165u32 {
+        push_control_element(&mut case, 0x4000_0000 | number, true)?;
+    }
+    case.extend_from_slice(b"element 2 epoch 0 ce 40000001 sequence 0")?;
+    Ok(String::from_utf8(case).ok().ok_or("a text")?)
+}
+
+#[test]
+fn as_many_control_elements_are_answered_as_may_be_associated(rt: HostRuntime) -> Result<(), Fail> {
+    let alloc = rt.alloc();
+    let case = crowd(alloc)?;
+    assert_eq!(rt; first_wrong(alloc, "", case.as_str(), 65_536)?, None);
+    Ok(())
+}
