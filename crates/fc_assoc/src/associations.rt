@@ -6,7 +6,7 @@ ghost use Rattle.fc_assoc.specs.Places.{IsPlace};
 
 use crate::Heard;
 use crate::silence::{ended, keep_heard};
-use fc_base::{CeId, List, Memory};
+use fc_base::{CeId, Duplicate, List, Memory};
 use std::alloc::Global;
 use std::marker::Model;
 
@@ -32,6 +32,13 @@ impl Model for Associations {
     ghost view = { λ s. from_sorted s.pairs.items };
 
     ghost invariant = { λ s. IsTrue (is_sorted nat_cmp s.pairs.items) × (length s.pairs.items ≤ 64) };
+}
+
+impl Duplicate for Associations {
+    fn copy(&self) -> Result<Self, Memory> {
+        let pairs = Vec::from_slice(*self.pairs.allocator(), self.pairs.as_slice())?;
+        Ok(Associations { pairs })
+    }
 }
 
 impl Associations {

@@ -15,4 +15,5 @@ pub use fc_value::Live;
 pub use filling::{fill, oper_filled};
 pub use laws::answers_fit;
 pub use offers::{Content, Offers, content_size};
+pub use questions::{Question, questions_of};
 pub use selects::{answer_query, answer_selects};

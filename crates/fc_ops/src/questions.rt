@@ -90,7 +90,7 @@ fn push_segments(steps: &mut List<Step>, segments: &[Segment<'_>]) -> Result<(),
 }
 
 impl<'a> Question<'a> {
-    // Whether it asks for properties.
+    /// Whether it asks for properties.
     pub fn takes_prop(&self) -> bool
         ensures { result ≡ spec.takes_prop self.now.0 }
     {
@@ -100,7 +100,7 @@ impl<'a> Question<'a> {
         }
     }
 
-    // A copy of its place.
+    /// A copy of its place.
     pub fn spot(&self, alloc: Global) -> Result<Spot, Memory>
         ensures { IfOk result (λ spot. spot ≡ self.now.1) }
     {
@@ -243,7 +243,7 @@ fn push_select<'a>(questions: &mut Vec<Question<'a>>, select: &'a Select) -> Res
     )
 }
 
-// What the leaves of selects ask for.
+/// What the leaves of selects ask for, in reading order. Each one lends the PATH-DATA that it stands in.
 pub fn questions_of<'a>(alloc: Global, selects: &'a [Select]) -> Result<Vec<Question<'a>>, Memory>
     ensures { IfOk result (λ questions. questions.items ≡ spec.questions selects.now) }
 {
