@@ -2,10 +2,12 @@
 //! answers to a query.
 #![tactic(auto)]
 
+mod laws;
 mod opening;
 mod query;
 mod settings;
 
+pub use laws::properties_stand_in_their_leaves;
 pub use opening::open_blocks;
 pub use query::{foreign_selects, told_selects};
 pub use settings::{HeartbeatSettings, settings_in};

@@ -1,7 +1,8 @@
 -- The configuration over whole lists of inputs.
-use Rattle.std.proofs.Common.{◌≡◌, ◌≢◌, Result, Ok, Err, ℕ, ◌==◌, ◌&&◌, not, Bool, true, false, cond, List, [], ◌∷◌, ◌++◌, refl, sym, ap, ◌∙◌, Option, Some, None, take}
-use Rattle.std.specs.List.{fold}
-use Rattle.fc_assoc.specs.Associations.{entered, still_heard}
+use Rattle.std.proofs.Common.{◌≡◌, ◌≢◌, Result, Ok, Err, ℕ, ◌==◌, ◌&&◌, not, Bool, true, false, cond, List, [], ◌∷◌, ◌++◌, refl, sym, ap, ◌∙◌}
+use Rattle.fc_assoc.specs.Associations.{entered}
+use Rattle.fc_events.specs.Setting.{exec_outcome}
+use Rattle.fc_events.specs.declared.subscriptions.Subscription.{Subscription}
 use Rattle.fc_exec.specs.Operations.{applied, coded, executed, made, operations}
 use Rattle.fc_exec.specs.declared.operations.Operation.{Operation}
 use Rattle.fc_modes.specs.Modes.{folded}
@@ -17,9 +18,9 @@ use Rattle.fc_store.specs.Stores.{Stored}
 use Rattle.fc_element.specs.declared.input.ElIn.{ElIn}
 use Rattle.fc_element.specs.declared.input.ElIn.TheVariants.{Opened, Arrived, Closed, Moment}
 use Rattle.fc_element.specs.ElementState.{ElementState}
-use Rattle.fc_element.specs.ElementMachine.{Turn, turn, all_get, beaten, beating, beats_of, by_order, executing, hearing, is_associated, is_ce, is_due, is_own, mode_of, moved_on, on_body, query_outs, renewing, step, unclaimed, watched, with_associations}
+use Rattle.fc_element.specs.ElementMachine.{Turn, turn, all_get, beaten, beats_of, by_order, done_by, executing, hearing, is_associated, is_ce, is_due, is_own, mode_of, moved_on, on_body, on_moment, query_outs, renewing, step, unclaimed, watched, with_associations}
+use Rattle.fc_element.specs.Performing.{are_props, configured, registered}
 use Rattle.fc_element.specs.Runs.{after, done}
-use Rattle.fc_blocks.specs.Settings.{ce_dead, ce_policy}
 
 -- an operation that is refused changes nothing
 refused_by : (s : Stored) (r : Result Stored ℕ) → (coded s r).1 ≢ 0 → (coded s r).0 ≡ s
@@ -33,18 +34,25 @@ refused_keeps s op bad = refused_by s (made op s) bad
 abbrev IsDone : Stored → Turn → Type 0
 IsDone old t = t.state.store ≡ folded applied old t.done
 
-unclaimed_done : (s : ElementState) (peer : ℕ) (m : Message) (selects : List Select) (a b : Bool) (mode : Mode)
-    → IsDone s.store (renewing peer m (cond (not a) (all_get s peer m selects 12) (cond b (all_get s peer m selects 21) (executing s peer m selects (executed mode s.store selects)))))
-unclaimed_done s peer m selects false b mode = refl
-unclaimed_done s peer m selects true true mode = refl
-unclaimed_done s peer m selects true false mode = kept_is_done applied refused_keeps mode s.store (operations selects)
+-- operations on properties do nothing on the configuration
+performed_by : (mode : Mode) (store : Stored) (subs : List Subscription) (selects : List Select) (b : Bool)
+    → (cond b (registered store (exec_outcome mode store subs selects)) (configured subs (executed mode store selects))).store
+    ≡ folded applied store (cond b (registered store (exec_outcome mode store subs selects)) (configured subs (executed mode store selects))).done
+performed_by mode store subs selects true = refl
+performed_by mode store subs selects false = kept_is_done applied refused_keeps mode store (operations selects)
+
+unclaimed_done : (s : ElementState) (peer : ℕ) (m : Message) (selects : List Select) (a b : Bool)
+    → IsDone s.store (renewing peer m (cond (not a) (all_get s peer m selects 12) (cond b (all_get s peer m selects 21) (executing s peer m selects (done_by m selects s.store s.subscriptions)))))
+unclaimed_done s peer m selects false b = refl
+unclaimed_done s peer m selects true true = refl
+unclaimed_done s peer m selects true false = performed_by (mode_of m.flags.em) s.store s.subscriptions selects (are_props selects)
 
 order_done : (s : ElementState) (peer : ℕ) (m : Message) (selects : List Select) (a b c : Bool)
     → IsDone s.store (cond (not a) (turn s []) (cond (not b) (all_get s peer m selects 4) (cond c (all_get s peer m selects 18) (renewing peer m (unclaimed s peer m selects)))))
 order_done s peer m selects false b c = refl
 order_done s peer m selects true false c = refl
 order_done s peer m selects true true true = refl
-order_done s peer m selects true true false = unclaimed_done s peer m selects (m.source == s.told.ce) m.flags.at (mode_of m.flags.em)
+order_done s peer m selects true true false = unclaimed_done s peer m selects (m.source == s.told.ce) m.flags.at
 
 config_done : (s : ElementState) (peer : ℕ) (m : Message) (selects : List Select) (b : Bool) → IsDone s.store (cond b (by_order s peer m selects) (turn s []))
 config_done s peer m selects true = order_done s peer m selects (results_fit selects && message_fits m) (is_own s m) (m.flags.em == 0)
@@ -73,23 +81,12 @@ message_done : (s : ElementState) (peer : ℕ) (m : Message) (b : Bool) → IsDo
 message_done s peer m true = body_done s peer m m.body
 message_done s peer m false = refl
 
-watched_store : (w : ElementState) (b : Bool) → (cond b (with_associations w (still_heard w.associations w.clock (ce_dead w.store))) w).store ≡ w.store
-watched_store w true = refl
-watched_store w false = refl
-
 beating_done : (w : ElementState) (b : Bool) → IsDone w.store (cond b (turn (beaten w) (beats_of w.told.id w.associations)) (turn w []))
 beating_done w true = refl
 beating_done w false = refl
 
-nothing_done : (w : ElementState) (b : Bool) → (cond b (turn (beaten w) (beats_of w.told.id w.associations)) (turn w [])).done ≡ []
-nothing_done w true = refl
-nothing_done w false = refl
-
-moment_done : (s : ElementState) (moment : ℕ) → IsDone s.store (beating (watched (moved_on s moment)))
-moment_done s moment =
-    let w = watched (moved_on s moment) in
-    let same : w.store ≡ s.store = watched_store (moved_on s moment) (ce_policy s.store == 0) in
-    beating_done w (is_due w) ∙ ap (folded applied w.store) (nothing_done w (is_due w)) ∙ same ∙ sym (ap (folded applied s.store) (nothing_done w (is_due w)))
+moment_done : (s : ElementState) (moment : ℕ) → IsDone s.store (on_moment (moved_on s moment))
+moment_done s moment = let w = watched (moved_on s moment) in beating_done w (is_due w)
 
 step_done : (s : ElementState) (i : ElIn) → IsDone s.store (step s i)
 unfolding step

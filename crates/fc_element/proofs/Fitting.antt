@@ -1,16 +1,14 @@
 -- What an element sends can be encoded.
-use Rattle.std.proofs.Common.{◌≡◌, ℕ, ◌&&◌, ◌==◌, not, nat_lt, Bool, true, false, cond, if◌then◌else◌, List, [], ◌∷◌, ◌<◌, length, map, refl, arith, subst, sym, ap, ◌∙◌, Option, Some, None, Result, Ok, Err}
+use Rattle.std.proofs.Common.{◌≡◌, ℕ, ◌&&◌, ◌==◌, nat_lt, Bool, true, false, cond, if◌then◌else◌, List, [], ◌∷◌, length, map, refl, subst, sym, ◌∙◌, Result, Ok, Err}
 use Rattle.std.specs.List.{AllByRecursion, list_all}
 use Rattle.std.specs.Prelude.{IfOk}
-use Rattle.std.specs.FinMap.{contains_key, entries}
+use Rattle.std.specs.FinMap.{entries, remove}
 use Rattle.fc_base.specs.declared.faults.Memory.{Memory}
 use Rattle.fc_assoc.specs.Associations.{AssociationMap}
 use Rattle.fc_assoc.specs.declared.heard.Heard.{Heard}
-use Rattle.fc_exec.specs.Operations.{executed}
 use Rattle.fc_lfbs.specs.LiveValues.{told_value}
-use Rattle.fc_modes.specs.declared.mode.Mode.{Mode}
 use Rattle.fc_msg.specs.Messages.{IsProper, ProperMsgBody, ProperSelects, message_fits}
-use Rattle.fc_ops.specs.Answering.{answered, is_queried, response_fits}
+use Rattle.fc_ops.specs.Answering.{is_queried}
 use Rattle.fc_ops.specs.Asking.{contents_of, questions}
 use Rattle.fc_ops.proofs.Counts.{query_counts}
 use Rattle.fc_ops.proofs.Responses.{answers_fit}
@@ -18,8 +16,6 @@ use Rattle.fc_path.specs.Canon.{joined, select_written}
 use Rattle.fc_path.specs.Results.{results_fit}
 use Rattle.fc_path.specs.declared.oper.Select.{Select}
 use Rattle.fc_reply.specs.Counting.{each_gets}
-use Rattle.fc_reply.specs.Answered.{answered_selects}
-use Rattle.fc_reply.specs.Replies.{reply}
 use Rattle.fc_reply.proofs.Fitting.{answered_fit, reply_fits}
 use Rattle.fc_msg.specs.declared.message.Message.{Message}
 use Rattle.fc_msg.specs.declared.message.MsgBody.{MsgBody}
@@ -28,9 +24,14 @@ use Rattle.fc_element.specs.declared.input.ElIn.{ElIn}
 use Rattle.fc_element.specs.declared.input.ElIn.TheVariants.{Opened, Arrived, Closed, Moment}
 use Rattle.fc_element.specs.declared.input.Out.{Out}
 use Rattle.fc_element.specs.ElementState.{ElementState}
-use Rattle.fc_element.specs.ElementMachine.{CanBeSent, IsProperIn, Turn, all_get, answer_to, answer_with, beaten, beating, beats_of, by_order, executing, hearing, heartbeat_of, is_associated, is_ce, is_due, is_own, mode_of, moved_on, on_body, on_message, out, query_answer, query_selects, renewing, responses, setup_of, step, turn, unclaimed, watched}
+use Rattle.fc_element.specs.ElementMachine.{CanBeSent, IsProperIn, Turn, answer_to, answer_with, beaten, beating, beats_of, by_order, done_by, down_outs, evaluated, hearing, heartbeat_of, is_associated, is_ce, is_due, is_own, moved_on, on_body, on_message, on_moment, query_answer, setup_of, step, turn, watched}
+use Rattle.fc_element.specs.Notices.{route}
+use Rattle.fc_element.specs.Performing.{Performed}
+use Rattle.fc_element.specs.Sending.{out}
+use Rattle.fc_element.proofs.Configs.{config_all}
+use Rattle.fc_element.proofs.Telling.{all_append, downs_all, notices_all}
 use Rattle.fc_blocks.proofs.Asked.{all_asked}
-use Rattle.fc_blocks.specs.Queries.{foreign_selects, told_selects}
+use Rattle.fc_blocks.specs.Queries.{foreign_selects, props_of, told_selects}
 
 abbrev Fit : Turn → Type 0
 Fit t = AllByRecursion CanBeSent t.outs
@@ -75,16 +76,17 @@ unfolding message_fits
 query_fits m selects = refl
 
 told_fits : (s : ElementState) (m : Message) (selects : List Select) → IsProper m → m.body ≡ Query selects → results_fit selects ≡ true
-    → message_fits (answer_with m (QueryResponse (told_selects s.told s.store selects))) ≡ true
+    → message_fits (answer_with m (QueryResponse (told_selects s.told s.store s.subscriptions selects))) ≡ true
 told_fits s m selects p b f =
-    query_fits m (told_selects s.told s.store selects)
-    ∙ answers_fit selects (contents_of (told_value s.told) s.store [] (questions selects)) (is_asked m selects p b) f (query_counts (told_value s.told) s.store [] selects)
+    query_fits m (told_selects s.told s.store s.subscriptions selects)
+    ∙ answers_fit selects (contents_of (told_value s.told) s.store (props_of s.told s.store s.subscriptions (questions selects)) (questions selects)) (is_asked m selects p b) f
+    (query_counts (told_value s.told) s.store (props_of s.told s.store s.subscriptions (questions selects)) selects)
 
 foreign_fits : (m : Message) (selects : List Select) → results_fit selects ≡ true → message_fits (answer_with m (QueryResponse (foreign_selects selects))) ≡ true
 foreign_fits m selects f = query_fits m (foreign_selects selects) ∙ answered_fit selects (each_gets 4 selects) f
 
 answer_is : (s : ElementState) (m : Message) (selects : List Select) (own : Bool) → IsProper m → m.body ≡ Query selects → results_fit selects ≡ true
-    → message_fits (answer_with m (QueryResponse (cond own (told_selects s.told s.store selects) (foreign_selects selects)))) ≡ true
+    → message_fits (answer_with m (QueryResponse (cond own (told_selects s.told s.store s.subscriptions selects) (foreign_selects selects)))) ≡ true
 answer_is s m selects true p b f = told_fits s m selects p b f
 answer_is s m selects false p b f = foreign_fits m selects f
 
@@ -95,37 +97,25 @@ query_taken_fits s peer m selects true false p b f = tt
 query_taken_fits s peer m selects false c p b f = tt
 
 -- ---- Configs
-module _ (s : ElementState) (peer : ℕ) (m : Message) (selects : List Select) (f : results_fit selects ≡ true) where
-  response_fits_it : (codes : List ℕ) (r : Option Message) → reply m selects codes ≡ r → AllByRecursion CanBeSent (responses peer r)
-  response_fits_it codes None e = tt
-  response_fits_it codes (Some r) e = (reply_fits m r selects codes f e, tt)
+config_fits : (s : ElementState) (peer : ℕ) (m : Message) (selects : List Select) (a : Bool) → is_associated s m ≡ a → Fit (cond a (by_order s peer m selects) (turn s []))
+config_fits s peer m selects a known =
+    config_all CanBeSent s peer m selects (λ codes r known fits e. reply_fits m r selects codes fits e)
+    (λ known first. let p : Performed = done_by m selects s.store s.subscriptions in
+    notices_all CanBeSent p.store.library (route s.told.id s.told.ce peer) (evaluated p).1 (λ n front back e fits. fits))
+    a known
 
-  unclaimed_fits : (a b : Bool) (mode : Mode)
-      → Fit (cond (not a) (all_get s peer m selects 12) (cond b (all_get s peer m selects 21) (executing s peer m selects (executed mode s.store selects))))
-  unclaimed_fits false b mode = response_fits_it (each_gets 12 selects) (reply m selects (each_gets 12 selects)) refl
-  unclaimed_fits true true mode = response_fits_it (each_gets 21 selects) (reply m selects (each_gets 21 selects)) refl
-  unclaimed_fits true false mode = response_fits_it (executed mode s.store selects).codes (reply m selects (executed mode s.store selects).codes) refl
+-- ---- associations that end
+downs_fit : (s : ElementState) (remaining : AssociationMap) → AllByRecursion CanBeSent (down_outs s remaining)
+downs_fit s remaining = downs_all CanBeSent s remaining (λ ce h n front back e lost k fits. fits)
 
-  named_fits : (b c : Bool) → Fit (cond (not b) (all_get s peer m selects 4) (cond c (all_get s peer m selects 18) (renewing peer m (unclaimed s peer m selects))))
-  named_fits false c = response_fits_it (each_gets 4 selects) (reply m selects (each_gets 4 selects)) refl
-  named_fits true true = response_fits_it (each_gets 18 selects) (reply m selects (each_gets 18 selects)) refl
-  named_fits true false = unclaimed_fits (m.source == s.told.ce) m.flags.at (mode_of m.flags.em)
-
-order_fits : (s : ElementState) (peer : ℕ) (m : Message) (selects : List Select) (a b : Bool) → results_fit selects ≡ a
-    → Fit (cond (not (a && b)) (turn s []) (cond (not (is_own s m)) (all_get s peer m selects 4) (cond (m.flags.em == 0) (all_get s peer m selects 18) (renewing peer m (unclaimed s peer m selects)))))
-order_fits s peer m selects true true e = named_fits s peer m selects e (is_own s m) (m.flags.em == 0)
-order_fits s peer m selects true false e = tt
-order_fits s peer m selects false b e = tt
-
-config_fits : (s : ElementState) (peer : ℕ) (m : Message) (selects : List Select) (a : Bool) → Fit (cond a (by_order s peer m selects) (turn s []))
-config_fits s peer m selects true = order_fits s peer m selects (results_fit selects) (message_fits m) refl
-config_fits s peer m selects false = tt
+moment_fits : (s : ElementState) → Fit (on_moment s)
+moment_fits s = all_append CanBeSent (down_outs s (watched s).associations) (beating (watched s)).outs (downs_fit s (watched s).associations) (beating_fits (watched s))
 
 body_fits : (s : ElementState) (peer : ℕ) (m : Message) → IsProper m → (body : MsgBody) → m.body ≡ body → Fit (on_body s peer m body)
 body_fits s peer m p (Setup selects) e = tt
 body_fits s peer m p (SetupResponse result) e = entered_fits (is_own s m && result == 0) _ _
-body_fits s peer m p (Teardown reason) e = tt
-body_fits s peer m p (Config selects) e = config_fits s peer m selects (is_associated s m)
+body_fits s peer m p (Teardown reason) e = downs_fit s (remove s.associations m.source)
+body_fits s peer m p (Config selects) e = config_fits s peer m selects (is_associated s m) refl
 body_fits s peer m p (ConfigResponse selects) e = tt
 body_fits s peer m p (Query selects) e = query_taken_fits s peer m selects (is_associated s m) (results_fit selects) p e refl
 body_fits s peer m p (QueryResponse selects) e = tt
@@ -145,7 +135,7 @@ unfolding step
 step_fits s (Opened peer) p = (setup_fits s.told.id, tt)
 step_fits s (Arrived peer m) p = message_taken_fits s peer m p
 step_fits s (Closed peer) p = tt
-step_fits s (Moment moment) p = beating_fits (watched (moved_on s moment))
+step_fits s (Moment moment) p = moment_fits (moved_on s moment)
 
 -- so can what a call gives that gives what the machine sends
 pub given_fits : (s : ElementState) (input : ElIn) (r : Result (List Out) Memory) → IsProperIn input → IfOk r (λ outs. outs ≡ (step s input).outs) → IfOk r (λ outs. AllByRecursion CanBeSent outs)

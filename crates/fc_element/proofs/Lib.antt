@@ -1,8 +1,10 @@
 pub mod Beats
+pub mod Configs
 pub mod Configuring
 pub mod Fitting
 pub mod Openings
 pub mod Runs
 pub mod Said
 pub mod Sent
+pub mod Telling
 pub mod Undoing

@@ -16,14 +16,13 @@ use Rattle.fc_msg.specs.declared.message.MsgBody.TheVariants.{Setup, SetupRespon
 use Rattle.fc_element.specs.declared.input.ElIn.{ElIn}
 use Rattle.fc_element.specs.declared.input.ElIn.TheVariants.{Opened, Arrived, Closed, Moment}
 use Rattle.fc_element.specs.ElementState.{ElementState, opened}
-use Rattle.fc_modes.specs.Modes.{Outcome}
+use Rattle.fc_events.specs.declared.subscriptions.Subscription.{Subscription}
 use Rattle.fc_path.specs.Results.{results_fit}
 use Rattle.fc_path.specs.declared.oper.Select.{Select}
 use Rattle.fc_store.specs.Stores.{Stored}
-use Rattle.fc_exec.specs.Operations.{executed}
-use Rattle.fc_exec.specs.declared.operations.Operation.{Operation}
 use Rattle.fc_types.specs.declared.class.Class.{Class}
-use Rattle.fc_element.specs.ElementMachine.{Turn, turn, step, is_ce, is_own, is_associated, on_body, on_query, on_config, by_order, unclaimed, all_get, executing, mode_of, hearing, renewing, query_outs, with_associations, with_store, moved_on, watched, is_due, beating, beaten, beats_of}
+use Rattle.fc_element.specs.ElementMachine.{turn, step, is_ce, is_own, is_associated, on_body, by_order, unclaimed, all_get, done_by, evaluated, executing, hearing, renewing, query_outs, with_associations, with_blocks, moved_on, watched, is_due, beating, beaten, beats_of}
+use Rattle.fc_element.specs.Performing.{Performed}
 use Rattle.fc_blocks.specs.Settings.{ce_policy, ce_dead}
 use Rattle.fc_element.specs.Runs.{after, IsAssociated, IsNoMoment, WasAccepted, WasHeard, WasLast}
 
@@ -35,7 +34,7 @@ pub after_more : (s : ElementState) (before : List ElIn) (i : ElIn) → after s 
 after_more s [] i = refl
 after_more s (j ∷ before) i = after_more (step s j).state before i
 
-same_key : (q k : ℕ) → eq_by_cmp nat_cmp q k ≡ true → q ≡ k
+pub same_key : (q k : ℕ) → eq_by_cmp nat_cmp q k ≡ true → q ≡ k
 same_key q k e = grind (arith, nat_tests)
 
 same_number : (q k : ℕ) → nat_cmp q k ≡ Equal → q ≡ k
@@ -160,9 +159,9 @@ module _ (s0 : ElementState) (is : List ElIn) (i : ElIn) where
         accepted_kept peer m come ce (eqb-true m.dest s.told.id p.0) (body ∙ ap SetupResponse (eqb-true result 0 p.1))
     response_kept peer m result come ce body false e = stays
 
-    -- a query and a Config: whether the association is renewed or not, and whatever becomes of the configuration
-    stored : (t : ElementState) (store : Stored) → Kept s0 (is ++ i ∷ []) t → Kept s0 (is ++ i ∷ []) (with_store t store)
-    stored t store k = record { id = k.id; all = k.all }
+    -- a query and a Config: whether the association is renewed or not, and whatever becomes of the configuration and what is registered
+    stored : (t : ElementState) (store : Stored) (subs : List Subscription) → Kept s0 (is ++ i ∷ []) t → Kept s0 (is ++ i ∷ []) (with_blocks t store subs)
+    stored t store subs k = record { id = k.id; all = k.all }
 
     module _ (peer : ℕ) (m : Message) (come : i ≡ Arrived peer m) (ce : is_ce m.source ≡ true) (selects : List Select) where
       heard_kept : Kept s0 (is ++ i ∷ []) (hearing s peer m)
@@ -172,17 +171,17 @@ module _ (s0 : ElementState) (is : List ElIn) (i : ElIn) where
       query_kept true = heard_kept
       query_kept false = stays
 
-      unclaimed_kept : (a b : Bool) (o : Outcome Stored Operation)
+      unclaimed_kept : (a b : Bool) (o : Performed)
           → Kept s0 (is ++ i ∷ []) (hearing (cond (not a) (all_get s peer m selects 12) (cond b (all_get s peer m selects 21) (executing s peer m selects o))).state peer m)
       unclaimed_kept false b o = heard_kept
       unclaimed_kept true true o = heard_kept
-      unclaimed_kept true false o = stored (hearing s peer m) o.state heard_kept
+      unclaimed_kept true false o = stored (hearing s peer m) o.store (evaluated o).0 heard_kept
 
       order_kept : (a b c : Bool) → Kept s0 (is ++ i ∷ []) (cond (not a) (turn s []) (cond (not b) (all_get s peer m selects 4) (cond c (all_get s peer m selects 18) (renewing peer m (unclaimed s peer m selects))))).state
       order_kept false b c = stays
       order_kept true false c = stays
       order_kept true true true = stays
-      order_kept true true false = unclaimed_kept (m.source == s.told.ce) m.flags.at (executed (mode_of m.flags.em) s.store selects)
+      order_kept true true false = unclaimed_kept (m.source == s.told.ce) m.flags.at (done_by m selects s.store s.subscriptions)
 
       config_kept : (b : Bool) → Kept s0 (is ++ i ∷ []) (cond b (by_order s peer m selects) (turn s [])).state
       config_kept true = order_kept (results_fit selects && message_fits m) (is_own s m) (m.flags.em == 0)
@@ -209,7 +208,7 @@ module _ (s0 : ElementState) (is : List ElIn) (i : ElIn) where
     watched_kept : (moment : ℕ) → Kept s0 (is ++ i ∷ []) (watched (moved_on s moment))
     watched_kept moment = by_policy (ce_policy s.store == 0)
       where
-        by_policy : (b : Bool) → Kept s0 (is ++ i ∷ []) (cond b (with_associations (moved_on s moment) (left s moment)) (moved_on s moment))
+        by_policy : (b : Bool) → Kept s0 (is ++ i ∷ []) (with_associations (moved_on s moment) (cond b (left s moment) s.associations))
         by_policy true = left_kept moment
         by_policy false = record { id = stays.id; all = stays.all }
 
@@ -316,7 +315,7 @@ module _ (dead : ℕ) (s : ElementState) (timely : AreTimely dead s) where
     query_timely selects true = hearing_timely
     query_timely selects false = timely
 
-    unclaimed_timely : (selects : List Select) (a b : Bool) (o : Outcome Stored Operation)
+    unclaimed_timely : (selects : List Select) (a b : Bool) (o : Performed)
         → AreTimely dead (hearing (cond (not a) (all_get s peer m selects 12) (cond b (all_get s peer m selects 21) (executing s peer m selects o))).state peer m)
     unclaimed_timely selects false b o = hearing_timely
     unclaimed_timely selects true true o = hearing_timely
@@ -326,7 +325,7 @@ module _ (dead : ℕ) (s : ElementState) (timely : AreTimely dead s) where
     order_timely selects false b c = timely
     order_timely selects true false c = timely
     order_timely selects true true true = timely
-    order_timely selects true true false = unclaimed_timely selects (m.source == s.told.ce) m.flags.at (executed (mode_of m.flags.em) s.store selects)
+    order_timely selects true true false = unclaimed_timely selects (m.source == s.told.ce) m.flags.at (done_by m selects s.store s.subscriptions)
 
     config_timely : (selects : List Select) (b : Bool) → AreTimely dead (cond b (by_order s peer m selects) (turn s [])).state
     config_timely selects true = order_timely selects (results_fit selects && message_fits m) (is_own s m) (m.flags.em == 0)
@@ -365,7 +364,7 @@ moment_timely s moment watches = beating_timely (watched (moved_on s moment)) (b
     policy : (n : ℕ) → n ≡ 0 → (n == 0) ≡ true
     policy n e = grind (arith, nat_tests)
 
-    by_policy : (b : Bool) → b ≡ true → AreTimely (ce_dead s.store) (cond b (with_associations (moved_on s moment) (left s moment)) (moved_on s moment))
+    by_policy : (b : Bool) → b ≡ true → AreTimely (ce_dead s.store) (with_associations (moved_on s moment) (cond b (left s moment) s.associations))
     by_policy true e who h f = (heard_still s moment who h f).1
     by_policy false e who h f = absurd (cc)
 

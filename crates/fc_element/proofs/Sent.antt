@@ -1,9 +1,12 @@
 -- What an element sends over a whole list of inputs, and why.
-use Rattle.std.proofs.Common.{◌≡◌, ◌↔◌, Option, Some, None, inl, inr, ℕ, ◌-◌, ◌==◌, ◌&&◌, not, nat_lt, cond, Bool, true, false, List, [], ◌∷◌, ◌++◌, append_assoc, map, refl, sym, ap, ap₂, ◌∙◌, subst, arith, eqb-true}
+use Rattle.std.proofs.Common.{◌≡◌, ◌↔◌, Option, Some, None, inl, inr, ℕ, ◌-◌, ◌==◌, ◌&&◌, not, nat_lt, cond, Bool, true, false, is_some, List, [], ◌∷◌, ◌++◌, append_assoc, map, refl, sym, ap, ap₂, ◌∙◌, subst, arith, eqb-true}
 use Rattle.std.proofs.lemmas.Bool.Decides.{nat_tests}
-use Rattle.std.specs.FinMap.{contains_key, entries, len}
+use Rattle.std.specs.Cmp.{nat_cmp_total}
+use Rattle.std.specs.FinMap.{contains_key, entries, get, get-remove, len, remove}
+use Rattle.std.specs.Ordering.{nat_cmp, eq_by_cmp}
+use Rattle.fc_events.specs.Telling.{notice_select}
 use Rattle.std.specs.List.{AllByRecursion}
-use Rattle.fc_assoc.specs.Associations.{still_heard}
+use Rattle.fc_assoc.specs.Associations.{AssociationMap}
 use Rattle.fc_assoc.specs.declared.heard.Heard.{Heard}
 use Rattle.fc_msg.specs.declared.message.Message.{Message}
 use Rattle.fc_msg.specs.declared.message.MsgBody.{MsgBody}
@@ -12,23 +15,21 @@ use Rattle.fc_element.specs.declared.input.ElIn.{ElIn}
 use Rattle.fc_element.specs.declared.input.ElIn.TheVariants.{Opened, Arrived, Closed, Moment}
 use Rattle.fc_element.specs.declared.input.Out.{Out}
 use Rattle.fc_element.specs.ElementState.{ElementState, opened}
-use Rattle.fc_exec.specs.Operations.{executed}
-use Rattle.fc_exec.specs.declared.operations.Operation.{Operation}
-use Rattle.fc_modes.specs.Modes.{Outcome}
-use Rattle.fc_modes.specs.declared.mode.Mode.{Mode}
-use Rattle.fc_msg.specs.Messages.{message_fits}
 use Rattle.fc_path.specs.Results.{results_fit}
 use Rattle.fc_path.specs.declared.oper.Select.{Select}
-use Rattle.fc_reply.specs.Counting.{each_gets}
 use Rattle.fc_reply.specs.Replies.{reply, response}
 use Rattle.fc_reply.proofs.Fitting.{sent_is}
 use Rattle.fc_reply.specs.Answered.{answered_selects}
-use Rattle.fc_store.specs.Stores.{Stored}
 use Rattle.fc_types.specs.declared.class.Class.{Class}
-use Rattle.fc_element.specs.ElementMachine.{Turn, turn, step, out, answer_to, answer_with, heartbeat_of, is_ce, is_own, is_associated, on_body, on_message, on_query, on_config, by_order, unclaimed, all_get, executing, mode_of, hearing, renewing, responses, query_outs, query_answer, query_selects, with_associations, watched, moved_on, is_due, beating, beaten, beats_of}
-use Rattle.fc_element.specs.Runs.{after, sent, IsAssociated, Asks, AnswersConfig, IsCalledFor, WasCalledFor}
-use Rattle.fc_blocks.specs.Settings.{ce_policy, ce_dead, fe_policy, fe_interval}
-use Rattle.fc_element.proofs.Runs.{both, named}
+use Rattle.fc_element.specs.ElementMachine.{turn, step, answer_to, heartbeat_of, is_ce, is_own, is_associated, on_body, on_message, on_moment, by_order, done_by, down_outs, evaluated, has_lost, hearing, query_answer, query_selects, watched, moved_on, is_due, beating, beaten, beats_of}
+use Rattle.fc_element.specs.Notices.{route}
+use Rattle.fc_element.specs.Performing.{Performed}
+use Rattle.fc_element.specs.Sending.{out}
+use Rattle.fc_element.specs.Runs.{after, sent, IsAssociated, Asks, Beats, IsCalledFor, WasCalledFor}
+use Rattle.fc_blocks.specs.Settings.{fe_policy, fe_interval}
+use Rattle.fc_element.proofs.Configs.{config_all}
+use Rattle.fc_element.proofs.Runs.{both, named, same_key}
+use Rattle.fc_element.proofs.Telling.{all_append, downs_all, notices_all}
 
 pub sent_each : (s : ElementState) (before behind : List ElIn) (i : ElIn)
     → sent s (before ++ i ∷ behind) ≡ sent s before ++ ((step (after s before) i).outs ++ sent (step (after s before) i).state behind)
@@ -63,36 +64,39 @@ not_query s peer m selects true true e =
 not_query s peer m selects true false e = nothing_is (out peer (answer_to m)) e
 not_query s peer m selects false b e = nothing_is (out peer (answer_to m)) e
 
-no_reply : {P : Type 0} (peer : ℕ) (m : Message) (selects : List Select) (codes : List ℕ) (r : Option Message) → reply m selects codes ≡ r → responses peer r ≡ out peer (answer_to m) ∷ [] → P
-no_reply peer m selects codes None e f = absurd (cc)
-no_reply peer m selects codes (Some r) e f =
+-- nor is a response to a Config, or a notice
+abbrev IsNoBeat : Out → Type 0
+IsNoBeat o = o.message.body ≡ Heartbeat → ⊥
+
+no_event : (selects : List Select) → Event selects ≡ Heartbeat → ⊥
+no_event selects e = cc
+
+no_config_response : (selects : List Select) → ConfigResponse selects ≡ Heartbeat → ⊥
+no_config_response selects e = cc
+
+no_reply : (peer : ℕ) (m : Message) (selects : List Select) (codes : List ℕ) (r : Message) → reply m selects codes ≡ Some r → IsNoBeat (out peer r)
+no_reply peer m selects codes r e f =
     let is : r ≡ response m (answered_selects selects codes) = sent_is m r codes (answered_selects selects codes) e in
-    let same : out peer r ≡ out peer (answer_to m) = cc in
-    let body : (response m (answered_selects selects codes)).body ≡ Heartbeat = ap (λ (x : Message). x.body) (sym is) ∙ ap (λ (o : Out). o.message.body) same in
-    absurd (cc)
+    no_config_response (answered_selects selects codes) (ap (λ (x : Message). x.body) (sym is) ∙ f)
 
-not_unclaimed : {P : Type 0} (s : ElementState) (peer : ℕ) (m : Message) (selects : List Select) (a b : Bool) (mode : Mode)
-    → (cond (not a) (all_get s peer m selects 12) (cond b (all_get s peer m selects 21) (executing s peer m selects (executed mode s.store selects)))).outs ≡ out peer (answer_to m) ∷ [] → P
-not_unclaimed s peer m selects false b mode e = no_reply peer m selects (each_gets 12 selects) (reply m selects (each_gets 12 selects)) refl e
-not_unclaimed s peer m selects true true mode e = no_reply peer m selects (each_gets 21 selects) (reply m selects (each_gets 21 selects)) refl e
-not_unclaimed s peer m selects true false mode e = no_reply peer m selects (executed mode s.store selects).codes (reply m selects (executed mode s.store selects).codes) refl e
+config_no_beat : (s : ElementState) (peer : ℕ) (m : Message) (selects : List Select) (a : Bool) → is_associated s m ≡ a → AllByRecursion IsNoBeat (cond a (by_order s peer m selects) (turn s [])).outs
+config_no_beat s peer m selects a known =
+    config_all IsNoBeat s peer m selects (λ codes r known fits e. no_reply peer m selects codes r e)
+    (λ known first. let p : Performed = done_by m selects s.store s.subscriptions in
+    notices_all IsNoBeat p.store.library (route s.told.id s.told.ce peer) (evaluated p).1 (λ n front back e fits. no_event (notice_select p.store.library n ∷ [])))
+    a known
 
-not_order : {P : Type 0} (s : ElementState) (peer : ℕ) (m : Message) (selects : List Select) (a b c : Bool)
-    → (cond (not a) (turn s []) (cond (not b) (all_get s peer m selects 4) (cond c (all_get s peer m selects 18) (renewing peer m (unclaimed s peer m selects))))).outs ≡ out peer (answer_to m) ∷ [] → P
-not_order s peer m selects false b c e = absurd (cc)
-not_order s peer m selects true false c e = no_reply peer m selects (each_gets 4 selects) (reply m selects (each_gets 4 selects)) refl e
-not_order s peer m selects true true true e = no_reply peer m selects (each_gets 18 selects) (reply m selects (each_gets 18 selects)) refl e
-not_order s peer m selects true true false e = not_unclaimed s peer m selects (m.source == s.told.ce) m.flags.at (mode_of m.flags.em) e
+downs_no_beat : (s : ElementState) (remaining : AssociationMap) → AllByRecursion IsNoBeat (down_outs s remaining)
+downs_no_beat s remaining = downs_all IsNoBeat s remaining (λ ce h n front back e lost k fits. no_event (notice_select s.store.library n ∷ []))
 
-not_config : {P : Type 0} (s : ElementState) (peer : ℕ) (m : Message) (selects : List Select) (a : Bool) → (cond a (by_order s peer m selects) (turn s [])).outs ≡ out peer (answer_to m) ∷ [] → P
-not_config s peer m selects true e = not_order s peer m selects (results_fit selects && message_fits m) (is_own s m) (m.flags.em == 0) e
-not_config s peer m selects false e = absurd (cc)
+no_answer : {P : Type 0} (outs : List Out) (peer : ℕ) (m : Message) → AllByRecursion IsNoBeat outs → outs ≡ out peer (answer_to m) ∷ [] → P
+no_answer outs peer m all e = absurd ((subst (AllByRecursion IsNoBeat) e all).0 refl)
 
 asked_by : (s : ElementState) (peer : ℕ) (m : Message) (body : MsgBody) → m.body ≡ body → (on_body s peer m body).outs ≡ out peer (answer_to m) ∷ [] → IsAssociated s m.source × Asks m
 asked_by s peer m (Setup selects) e f = nothing_is (out peer (answer_to m)) f
 asked_by s peer m (SetupResponse result) e f = quiet (is_own s m && result == 0) _ _ (out peer (answer_to m)) f
-asked_by s peer m (Teardown reason) e f = nothing_is (out peer (answer_to m)) f
-asked_by s peer m (Config selects) e f = not_config s peer m selects (is_associated s m) f
+asked_by s peer m (Teardown reason) e f = no_answer (down_outs s (remove s.associations m.source)) peer m (downs_no_beat s (remove s.associations m.source)) f
+asked_by s peer m (Config selects) e f = no_answer (cond (is_associated s m) (by_order s peer m selects) (turn s [])).outs peer m (config_no_beat s peer m selects (is_associated s m) refl) f
 asked_by s peer m (ConfigResponse selects) e f = nothing_is (out peer (answer_to m)) f
 asked_by s peer m (Query selects) e f = not_query s peer m selects (is_associated s m) (results_fit selects) f
 asked_by s peer m (QueryResponse selects) e f = nothing_is (out peer (answer_to m)) f
@@ -124,10 +128,6 @@ answered id ce peer library instances is m = (
 )
 
 -- what is sent at one input
-all_append : {X : Type 0} (P : X → Type 0) (xs ys : List X) → AllByRecursion P xs → AllByRecursion P ys → AllByRecursion P (xs ++ ys)
-all_append P [] ys a b = b
-all_append P (x ∷ xs) ys a b = (a.0, all_append P xs ys a.1 b)
-
 all_weaker : {X : Type 0} (P Q : X → Type 0) → ((x : X) → P x → Q x) → (xs : List X) → AllByRecursion P xs → AllByRecursion Q xs
 all_weaker P Q weaker [] a = tt
 all_weaker P Q weaker (x ∷ xs) a = (weaker x a.0, all_weaker P Q weaker xs a.1)
@@ -140,28 +140,35 @@ quiet_all : (P : Out → Type 0) (b : Bool) (s t : ElementState) → AllByRecurs
 quiet_all P true s t = tt
 quiet_all P false s t = tt
 
-module _ (s : ElementState) (peer : ℕ) (m : Message) (selects : List Select) (body : m.body ≡ Config selects) (known : IsAssociated s m.source) where
-  reply_called : (codes : List ℕ) (r : Option Message) → reply m selects codes ≡ r → AllByRecursion (IsCalledFor s (Arrived peer m)) (responses peer r)
-  reply_called codes None e = tt
-  reply_called codes (Some r) e = ((known, inr (inr (selects, codes, body, e, refl))), tt)
-
-  unclaimed_called : (a b : Bool) (mode : Mode)
-      → AllByRecursion (IsCalledFor s (Arrived peer m)) (cond (not a) (all_get s peer m selects 12) (cond b (all_get s peer m selects 21) (executing s peer m selects (executed mode s.store selects)))).outs
-  unclaimed_called false b mode = reply_called (each_gets 12 selects) (reply m selects (each_gets 12 selects)) refl
-  unclaimed_called true true mode = reply_called (each_gets 21 selects) (reply m selects (each_gets 21 selects)) refl
-  unclaimed_called true false mode = reply_called (executed mode s.store selects).codes (reply m selects (executed mode s.store selects).codes) refl
-
-  order_called : (a b c : Bool)
-      → AllByRecursion (IsCalledFor s (Arrived peer m)) (cond (not a) (turn s []) (cond (not b) (all_get s peer m selects 4) (cond c (all_get s peer m selects 18) (renewing peer m (unclaimed s peer m selects))))).outs
-  order_called false b c = tt
-  order_called true false c = reply_called (each_gets 4 selects) (reply m selects (each_gets 4 selects)) refl
-  order_called true true true = reply_called (each_gets 18 selects) (reply m selects (each_gets 18 selects)) refl
-  order_called true true false = unclaimed_called (m.source == s.told.ce) m.flags.at (mode_of m.flags.em)
-
 config_called : (s : ElementState) (peer : ℕ) (m : Message) (selects : List Select) → m.body ≡ Config selects → (a : Bool) → is_associated s m ≡ a
     → AllByRecursion (IsCalledFor s (Arrived peer m)) (cond a (by_order s peer m selects) (turn s [])).outs
-config_called s peer m selects body true known = order_called s peer m selects body known (results_fit selects && message_fits m) (is_own s m) (m.flags.em == 0)
-config_called s peer m selects body false known = tt
+config_called s peer m selects body a known =
+    config_all (IsCalledFor s (Arrived peer m)) s peer m selects (λ codes r known fits e. (known, inr (inr (inl (selects, codes, body, e, refl)))))
+    (λ known first. let p : Performed = done_by m selects s.store s.subscriptions in
+    notices_all (IsCalledFor s (Arrived peer m)) p.store.library (route s.told.id s.told.ce peer) (evaluated p).1
+    (λ n front back e fits. (known, inr (inr (inr (inl (selects, n, front, back, body, eqb-true m.source s.told.ce first, e, refl)))))))
+    a known
+
+-- the first control element has an association, and without that of the sender it has none: it is the sender
+lost_is : (s : ElementState) (m : Message) → has_lost s (remove s.associations m.source) ≡ true → IsAssociated s m.source
+lost_is s m lost =
+    let p = both _ _ lost in
+    let q = both _ _ p.1 in
+    by_key (eq_by_cmp nat_cmp s.told.ce m.source) refl q.0 (subst (λ (o : Option Heard). not (is_some o) ≡ true) (get-remove nat_cmp_total s.associations m.source s.told.ce) q.1)
+  where
+    not_both : (b : Bool) → b ≡ true → not b ≡ true → ⊥
+    not_both true e f = cc
+    not_both false e f = cc
+
+    by_key : (b : Bool) → eq_by_cmp nat_cmp s.told.ce m.source ≡ b → contains_key s.associations s.told.ce ≡ true → not (is_some (cond b None (get s.associations s.told.ce))) ≡ true
+        → IsAssociated s m.source
+    by_key true e there gone = subst (λ (ce : ℕ). contains_key s.associations ce ≡ true) (same_key s.told.ce m.source e) there
+    by_key false e there gone = absurd (not_both (is_some (get s.associations s.told.ce)) there gone)
+
+teardown_called : (s : ElementState) (peer : ℕ) (m : Message) (reason : ℕ) → m.body ≡ Teardown reason → AllByRecursion (IsCalledFor s (Arrived peer m)) (down_outs s (remove s.associations m.source))
+teardown_called s peer m reason body =
+    downs_all (IsCalledFor s (Arrived peer m)) s (remove s.associations m.source)
+    (λ ce h n front back e lost k fits. (lost_is s m lost, inr (inr (inr (inr (reason, body, (ce, h, n, front, back, e, lost, k, refl)))))))
 
 query_called : (s : ElementState) (peer : ℕ) (m : Message) (selects : List Select) → m.body ≡ Query selects → (a b : Bool) → is_associated s m ≡ a
     → AllByRecursion (IsCalledFor s (Arrived peer m)) (cond a (turn (hearing s peer m) (cond b (out peer (query_answer s m selects) ∷ []) [])) (turn s [])).outs
@@ -172,7 +179,7 @@ query_called s peer m selects body false b known = tt
 body_called : (s : ElementState) (peer : ℕ) (m : Message) (body : MsgBody) → m.body ≡ body → AllByRecursion (IsCalledFor s (Arrived peer m)) (on_body s peer m body).outs
 body_called s peer m (Setup selects) e = tt
 body_called s peer m (SetupResponse result) e = quiet_all (IsCalledFor s (Arrived peer m)) (is_own s m && result == 0) _ _
-body_called s peer m (Teardown reason) e = tt
+body_called s peer m (Teardown reason) e = teardown_called s peer m reason e
 body_called s peer m (Config selects) e = config_called s peer m selects e (is_associated s m) refl
 body_called s peer m (ConfigResponse selects) e = tt
 body_called s peer m (Query selects) e = query_called s peer m selects e (is_associated s m) (results_fit selects) refl
@@ -201,37 +208,30 @@ all_beats id front (pair ∷ pairs) = (
       (append_assoc front (pair ∷ []) pairs) (all_beats id (front ++ pair ∷ []) pairs),
 )
 
-beating_called : (s w : ElementState) (moment : ℕ) → w.told.id ≡ s.told.id → fe_policy w.store ≡ fe_policy s.store → (step s (Moment moment)) ≡ beating w
-    → AllByRecursion (IsCalledFor s (Moment moment)) (beating w).outs
-beating_called s w moment id policy is = by_due (is_due w) refl
+beating_called : (w : ElementState) → AllByRecursion (Beats w w.associations) (beating w).outs
+beating_called w = by_due (is_due w) refl
   where
-    by_due : (b : Bool) → is_due w ≡ b → AllByRecursion (IsCalledFor s (Moment moment)) (cond b (turn (beaten w) (beats_of w.told.id w.associations)) (turn w [])).outs
+    by_due : (b : Bool) → is_due w ≡ b → AllByRecursion (Beats w w.associations) (cond b (turn (beaten w) (beats_of w.told.id w.associations)) (turn w [])).outs
     by_due false e = tt
     by_due true e =
         let p : ((fe_policy w.store == 1) ≡ true) × ((not (nat_lt (w.clock - w.last_beat) (fe_interval w.store)) && not (len w.associations == 0)) ≡ true) = both _ _ e in
-        let there : (step s (Moment moment)).state.associations ≡ w.associations = ap (λ (t : Turn). t.state.associations) is ∙ kept_there (is_due w) in
-        all_weaker (IsBeat w.told.id (entries w.associations)) (IsCalledFor s (Moment moment))
-        (λ o beat. (sym policy ∙ eqb-true (fe_policy w.store) 1 p.0, beat.0, beat.1, beat.2, beat.3, ap entries there ∙ beat.4, beat.5 ∙ ap (λ (n : ℕ). out beat.1.peer (heartbeat_of n beat.0)) id))
+        all_weaker (IsBeat w.told.id (entries w.associations)) (Beats w w.associations)
+        (λ o beat. (eqb-true (fe_policy w.store) 1 p.0, beat.0, beat.1, beat.2, beat.3, beat.4, beat.5))
         (map (λ (pair : ℕ × Heard). out pair.1.peer (heartbeat_of w.told.id pair.0)) (entries w.associations)) (all_beats w.told.id [] (entries w.associations))
-      where
-        kept_there : (b : Bool) → (cond b (turn (beaten w) (beats_of w.told.id w.associations)) (turn w [])).state.associations ≡ w.associations
-        kept_there true = refl
-        kept_there false = refl
 
-watched_id : (w : ElementState) → ((watched w).told.id ≡ w.told.id) × (fe_policy (watched w).store ≡ fe_policy w.store)
-watched_id w = by_policy (ce_policy w.store == 0)
-  where
-    by_policy : (b : Bool) → ((cond b (with_associations w (still_heard w.associations w.clock (ce_dead w.store))) w).told.id ≡ w.told.id)
-        × (fe_policy (cond b (with_associations w (still_heard w.associations w.clock (ce_dead w.store))) w).store ≡ fe_policy w.store)
-    by_policy true = (refl, refl)
-    by_policy false = (refl, refl)
+moment_called : (s : ElementState) (moment : ℕ) → AllByRecursion (IsCalledFor s (Moment moment)) (on_moment (moved_on s moment)).outs
+moment_called s moment =
+    let w = watched (moved_on s moment) in
+    all_append (IsCalledFor s (Moment moment)) (down_outs (moved_on s moment) w.associations) (beating w).outs
+    (downs_all (IsCalledFor s (Moment moment)) (moved_on s moment) w.associations (λ ce h n front back e lost k fits. inl (ce, h, n, front, back, e, lost, k, refl)))
+    (all_weaker (Beats w w.associations) (IsCalledFor s (Moment moment)) (λ o beat. inr beat) (beating w).outs (beating_called w))
 
 step_called : (s : ElementState) (i : ElIn) → AllByRecursion (IsCalledFor s i) (step s i).outs
 unfolding step
 step_called s (Opened peer) = (refl, tt)
 step_called s (Arrived peer m) = message_called s peer m (is_ce m.source)
 step_called s (Closed peer) = tt
-step_called s (Moment moment) = let w = watched_id (moved_on s moment) in beating_called s (watched (moved_on s moment)) moment w.0 w.1 refl
+step_called s (Moment moment) = moment_called s moment
 
 pub all_called : (s : ElementState) (is : List ElIn) → AllByRecursion (WasCalledFor s is) (sent s is)
 all_called s [] = tt

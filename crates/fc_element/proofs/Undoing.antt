@@ -1,19 +1,34 @@
--- Operations that are executed while a mark stands over all instances: what they leave once the mark has ended, and what is given back.
-use Rattle.std.proofs.Common.{◌≡◌, ◌⊎◌, inl, inr, ℕ, ◌+◌, ◌-◌, ◌==◌, not, List, [], ◌∷◌, ◌++◌, length, map, replicate, slice_get, slice_index, take, refl, sym, ap, ◌∙◌, Option, Some, None, Bool, true, Result, Ok, Err, arith, zero, suc}
+-- Operations that are executed while a mark stands over all instances: what they leave once the mark has ended, what events see of that, and
+-- what is given back.
+use Rattle.std.proofs.Common.{◌≡◌, cond, option_map, false, ℕ, ◌+◌, ◌-◌, ◌==◌, not, List, [], ◌∷◌, ◌++◌, length, map, replicate, slice_get, slice_index, take, refl, sym, ap, ap₂, ◌∙◌, Option, Some, None, Bool, true, Result, Ok, Err, arith, suc}
 use Rattle.std.specs.List.{position}
 use Rattle.std.specs.Prelude.{OnErr}
 use Rattle.fc_modes.specs.Modes.{around, codes_of, first_refused, folded, outcome, outcome_by}
 use Rattle.fc_modes.specs.declared.mode.Mode.{Mode}
 use Rattle.fc_modes.specs.declared.mode.Mode.TheVariants.{AllOrNone, UntilFailure, Continue}
 use Rattle.fc_path.specs.declared.oper.Select.{Select}
-use Rattle.fc_store.specs.Stores.{Change, Components, IsWhole, IsWholeTree, Pairwise, Stored, Tree, changed, further, gone_back, mark_of, marks_of, over_mark, places_in, with_mark, without_mark}
-use Rattle.fc_store.specs.Spots.{not_supported}
+use Rattle.fc_store.specs.Stores.{Change, Components, IsWhole, IsWholeTree, Pairwise, Stored, Tree, changed, declared_in, further, gone_back, mark_of, marks_of, over_mark, places_in, present, seen, seen_at, value_in, value_of, with_mark, without_mark}
+use Rattle.fc_store.specs.declared.spots.Purpose.TheVariants as purpose
+use Rattle.fc_base.specs.Answers.{◌>>=◌}
+use Rattle.fc_types.specs.Components.{ComponentDecl}
+use Rattle.fc_types.specs.declared.class.EventDecl.{EventDecl}
+use Rattle.fc_value.specs.declared.value.Value.{Value}
+use Rattle.fc_events.specs.Events.{declared, sight_by, sight_of, sighted, target_spot}
+use Rattle.fc_events.specs.Reports.{evaluated_in, reported_by, reports}
+use Rattle.fc_events.specs.Setting.{exec_outcome}
+use Rattle.fc_events.specs.declared.subscriptions.EventPlace.{EventPlace}
+use Rattle.fc_events.specs.declared.subscriptions.Notice.{Notice}
+use Rattle.fc_events.specs.declared.subscriptions.Subscription.{Subscription}
+use Rattle.fc_msg.specs.declared.message.Message.{Message}
+use Rattle.fc_reply.specs.Replies.{reply}
+use Rattle.fc_store.specs.Spots.{not_supported, resolved}
 use Rattle.fc_store.specs.Scopes.{each_at}
 use Rattle.fc_store.proofs.Apart.{made}
 use Rattle.fc_store.proofs.Doing.{err_ok, same_tree}
+use Rattle.fc_store.proofs.Lists.{get_map, map_each}
 use Rattle.fc_store.proofs.Scoped.{front_of, last_of}
 use Rattle.fc_types.specs.declared.class.Class.{Class}
-use Rattle.fc_instance.specs.Cells.{merge_cell, put_cell, remove_cell}
+use Rattle.fc_instance.specs.Cells.{look_cell, merge_cell, put_cell, remove_cell}
 use Rattle.fc_path.specs.declared.oper.OperKind.{OperKind}
 use Rattle.fc_path.specs.declared.oper.OperKind.TheVariants as kinds
 use Rattle.fc_path.specs.declared.oper.Spot.{Spot}
@@ -23,11 +38,16 @@ use Rattle.fc_path.specs.declared.path.PathData.{PathData}
 use Rattle.fc_exec.specs.Operations.{applied, at_marks, coded, executed, leaf_made, operations, set_spot}
 use Rattle.fc_exec.specs.declared.operations.Operation.TheVariants as operation
 use Rattle.fc_element.specs.Beside.{IsBeside}
+use Rattle.fc_element.specs.ElementMachine.{done_by, evaluated, mode_of, responses, says}
+use Rattle.fc_element.specs.Notices.{notice_outs}
+use Rattle.fc_element.specs.Performing.{Performed, are_props, configured, registered}
+use Rattle.fc_element.specs.declared.input.Out.{Out}
+use Rattle.fc_element.specs.declared.notices.Route.{Route}
 use Rattle.fc_exec.specs.declared.operations.Operation.{Operation}
 use Rattle.fc_exec.proofs.Applying.{effect_is, instances_stay}
 use Rattle.fc_exec.proofs.Marking.{set_unmarked}
 use Rattle.fc_exec.proofs.Named.{outcome_stays}
-use Rattle.fc_exec.proofs.Places.{over_scope, within}
+use Rattle.fc_exec.proofs.Places.{each_id, over_scope, within}
 
 -- ---- what is done to a state is done to what it is seen as
 module _ {S O : Type 0} (effect : S → O → S × ℕ) (f : S → S) (same : (s : S) (op : O) → ◌≡◌ {A = S × ℕ} (effect (f s) op) (f (effect s op).0, (effect s op).1)) where
@@ -86,6 +106,110 @@ module _ (mode : Mode) (selects : List Select) (mark : List (ℕ × ℕ)) (old s
 
   pub same_codes : (executed mode set selects).codes ≡ (executed mode old selects).codes
   same_codes = sym (outcome_codes_as applied (less mark) (applied_less mark) mode set (operations selects)) ∙ ap (λ s. (executed mode s selects).codes) (set_less mark old set m e)
+
+-- ---- what events see does not depend on a mark
+abbrev values : Tree → Components
+values t = t.now
+
+abbrev value_from : ℕ → Option Components → Option Value
+value_from c None = None
+value_from c (Some vs) = present (slice_get vs c)
+
+value_now : (c : ℕ) (o : Option Tree) → value_of c o ≡ value_from c (option_map values o)
+value_now c None = refl
+value_now c (Some t) = refl
+
+value_read : (ts : List Tree) (place : ℕ × ℕ) → value_of place.1 (slice_get ts place.0) ≡ value_from place.1 (slice_get (map values ts) place.0)
+value_read ts place = value_now place.1 (slice_get ts place.0) ∙ ap (value_from place.1) (sym (get_map values ts place.0))
+
+module _ (mark : List (ℕ × ℕ)) (s : Stored) where
+  values_less : map values (each_at without_mark mark s.trees) ≡ map values s.trees
+  values_less = map_each values without_mark (λ vs. vs) mark s.trees (λ t. refl) ∙ each_id mark (map values s.trees)
+
+  value_less : (place : ℕ × ℕ) → value_in (less mark s) place ≡ value_in s place
+  value_less place =
+      value_read (each_at without_mark mark s.trees) place ∙ ap (λ vs. value_from place.1 (slice_get vs place.0)) values_less ∙ sym (value_read s.trees place)
+
+  seen_less : (spot : Spot) → seen purpose.Look spot (less mark s) ≡ seen purpose.Look spot s
+  seen_less spot = by_place (resolved purpose.Look s.library s.instances spot.class spot.instance spot.steps)
+    where
+      by_declared : (place : ℕ × ℕ) (o : Option ComponentDecl) → seen_at spot (less mark s) place o ≡ seen_at spot s place o
+      by_declared place None = refl
+      by_declared place (Some component) = ap (look_cell (further spot.steps) component.ty) (value_less place)
+
+      by_place : (r : Result (ℕ × ℕ) ℕ)
+          → (r >>= λ place. seen_at spot (less mark s) place (slice_get (declared_in s.library spot.class) place.1)) ≡ (r >>= λ place. seen_at spot s place (slice_get (declared_in s.library spot.class) place.1))
+      by_place (Err code) = refl
+      by_place (Ok place) = by_declared place (slice_get (declared_in s.library spot.class) place.1)
+
+  sight_less : (p : EventPlace) → sight_of (less mark s) p ≡ sight_of s p
+  sight_less p = by_event (declared s.library p)
+    where
+      by_event : (o : Option EventDecl) → sight_by (less mark s) p o ≡ sight_by s p o
+      by_event None = refl
+      by_event (Some event) = ap (sighted event.when) (seen_less (target_spot p event))
+
+  evaluated_less : (sub : Subscription) → evaluated_in (less mark s) sub ≡ evaluated_in s sub
+  evaluated_less sub = ap (reported_by sub sub.watch) (sight_less sub.place)
+
+  registered_less : (subs : List Subscription) → (reports (less mark s) subs).0 ≡ (reports s subs).0
+  registered_less [] = refl
+  registered_less (sub ∷ subs) = ap₂ (λ (x : Subscription) (xs : List Subscription). x ∷ xs) (ap (λ (x : Subscription × List Notice). x.0) (evaluated_less sub)) (registered_less subs)
+
+  told_less : (subs : List Subscription) → (reports (less mark s) subs).1 ≡ (reports s subs).1
+  told_less [] = refl
+  told_less (sub ∷ subs) = ap₂ (λ (xs ys : List Notice). xs ++ ys) (ap (λ (x : Subscription × List Notice). x.1) (evaluated_less sub)) (told_less subs)
+
+-- ---- what a Config makes under the mark, and says
+pub props_none : (m : Message) (selects : List Select) (store : Stored) (subs : List Subscription) → are_props selects ≡ false → done_by m selects store subs ≡ configured subs (executed (mode_of m.flags.em) store selects)
+props_none m selects store subs e =
+    ap (λ (b : Bool). cond b (registered store (exec_outcome (mode_of m.flags.em) store subs selects)) (configured subs (executed (mode_of m.flags.em) store selects))) e
+
+pub props_all : (m : Message) (selects : List Select) (store : Stored) (subs : List Subscription) → are_props selects ≡ true → done_by m selects store subs ≡ registered store (exec_outcome (mode_of m.flags.em) store subs selects)
+props_all m selects store subs e =
+    ap (λ (b : Bool). cond b (registered store (exec_outcome (mode_of m.flags.em) store subs selects)) (configured subs (executed (mode_of m.flags.em) store selects))) e
+
+abbrev said_by : Route → Message → List Select → List Subscription → List ℕ → Stored → List Out
+said_by r m selects subs codes store = responses r.peer (reply m selects codes) ++ notice_outs store.library r (reports store subs).1
+
+-- what SET-PROPs make, and what is said of them
+module _ (m : Message) (selects : List Select) (store : Stored) (subs copy after : List Subscription) (codes : List ℕ) (mode : Mode) (moded : mode ≡ mode_of m.flags.em) (copied : copy ≡ subs)
+    (all : are_props selects ≡ true) (state : after ≡ (exec_outcome mode store copy selects).state.1) (coded_so : codes ≡ (exec_outcome mode store copy selects).codes) where
+  done_is : done_by m selects store subs ≡ registered store (exec_outcome mode store copy selects)
+  done_is =
+      props_all m selects store subs all
+      ∙ sym (ap (λ (them : List Subscription). registered store (exec_outcome (mode_of m.flags.em) store them selects)) copied) ∙ sym (ap (λ (k : Mode). registered store (exec_outcome k store copy selects)) moded)
+
+  pub registered_outs : (r : Route) → said_by r m selects after codes store ≡ says r m selects (done_by m selects store subs)
+  registered_outs r =
+      ap (λ (them : List Subscription). said_by r m selects them codes store) state
+      ∙ ap (λ (cs : List ℕ). said_by r m selects (exec_outcome mode store copy selects).state.1 cs store) coded_so ∙ sym (ap (says r m selects) done_is)
+
+  pub registered_store : store ≡ (done_by m selects store subs).store
+  registered_store = sym (ap (λ (p : Performed). p.store) done_is)
+
+  pub registered_subscriptions : (reports store after).0 ≡ (evaluated (done_by m selects store subs)).0
+  registered_subscriptions = ap (λ (them : List Subscription). (reports store them).0) state ∙ sym (ap (λ (p : Performed). (evaluated p).0) done_is)
+
+module _ (m : Message) (selects : List Select) (mark : List (ℕ × ℕ)) (old set now : Stored) (subs others : List Subscription) (copied : others ≡ subs)
+    (none : are_props selects ≡ false) (marked : mark ≡ mark_of [] old) (over : set ≡ over_mark with_mark mark old) (is : now ≡ (executed (mode_of m.flags.em) set selects).state) where
+  unmarked_now : less mark now ≡ (executed (mode_of m.flags.em) old selects).state
+  unmarked_now = released (mode_of m.flags.em) selects mark old set marked over now is
+
+  pub changed_store : over_mark without_mark mark now ≡ (done_by m selects old subs).store
+  changed_store = unmarked_now ∙ sym (ap (λ (p : Performed). p.store) (props_none m selects old subs none))
+
+  pub changed_subscriptions : (reports now others).0 ≡ (evaluated (done_by m selects old subs)).0
+  changed_subscriptions =
+      ap (λ (them : List Subscription). (reports now them).0) copied ∙ sym (registered_less mark now subs) ∙ ap (λ (t : Stored). (reports t subs).0) unmarked_now ∙ sym (ap (λ (p : Performed). (evaluated p).0) (props_none m selects old subs none))
+
+  pub changed_outs : (r : Route) → said_by r m selects others (executed (mode_of m.flags.em) set selects).codes now ≡ says r m selects (done_by m selects old subs)
+  changed_outs r =
+      ap (λ (them : List Subscription). said_by r m selects them (executed (mode_of m.flags.em) set selects).codes now) copied
+      ∙ ap (λ codes. said_by r m selects subs codes now) (same_codes (mode_of m.flags.em) selects mark old set marked over)
+      ∙ ap (λ (told : List Notice). responses r.peer (reply m selects (executed (mode_of m.flags.em) old selects).codes) ++ notice_outs now.library r told) (sym (told_less mark now subs))
+      ∙ ap (said_by r m selects subs (executed (mode_of m.flags.em) old selects).codes) unmarked_now
+      ∙ sym (ap (says r m selects) (props_none m selects old subs none))
 
 -- ---- the library and the instances stay
 changed_library : (f : Change) (spot : Spot) (s t : Stored) → changed f spot s ≡ Ok t → t.library ≡ s.library

@@ -1,28 +1,33 @@
 -- What an element does with what comes: RFC 5810, sections 4.4 and 7.5 on associations, 7.6 on configuration, 7.7 on queries and 7.10 on
--- heartbeats. That a Config of another control element than the one that is to be its master is refused, and with which codes what is not
--- executed is answered, is this profile's own.
-use Rattle.std.specs.Prelude.{◌≡◌, ℕ, ◌-◌, ◌/◌, ◌%◌, ◌^◌, ◌==◌, ◌&&◌, not, nat_lt, max, Bool, true, false, if◌then◌else◌, List, [], ◌∷◌, ◌++◌, map, codes, decimal, Option, Some, None}
+-- heartbeats, and 7.8 on events. That a Config of another control element than the one that is to be its master is refused, with which codes
+-- what is not executed is answered, and who is told of events, is this profile's own.
+use Rattle.std.specs.Prelude.{◌≡◌, ℕ, ◌-◌, ◌/◌, ◌%◌, ◌^◌, ◌==◌, ◌&&◌, not, nat_lt, max, Bool, true, if◌then◌else◌, List, [], ◌∷◌, ◌++◌, map, codes, Option, Some, None}
 use Rattle.std.specs.FinMap.{contains_key, entries, remove, len}
+use Rattle.std.specs.List.{flat_map}
 use Rattle.fc_assoc.specs.Associations.{AssociationMap, entered, renewed, still_heard}
-use Rattle.fc_wire.specs.Flags.{FlagValues}
 use Rattle.fc_path.specs.Results.{results_fit}
 use Rattle.fc_path.specs.declared.oper.Select.{Select}
 use Rattle.fc_msg.specs.Messages.{IsProper, message_fits}
 use Rattle.fc_msg.specs.declared.message.Message.{Message}
 use Rattle.fc_msg.specs.declared.message.MsgBody.{MsgBody}
 use Rattle.fc_msg.specs.declared.message.MsgBody.TheVariants.{Setup, SetupResponse, Teardown, Config, ConfigResponse, Query, QueryResponse, Event, Heartbeat}
-use Rattle.fc_modes.specs.Modes.{Outcome}
+use Rattle.fc_events.specs.Reports.{reports}
+use Rattle.fc_events.specs.declared.subscriptions.Notice.{Notice}
+use Rattle.fc_events.specs.declared.subscriptions.Subscription.{Subscription}
 use Rattle.fc_modes.specs.declared.mode.Mode.{Mode}
 use Rattle.fc_modes.specs.declared.mode.Mode.TheVariants.{AllOrNone, UntilFailure, Continue}
 use Rattle.fc_store.specs.Stores.{Stored}
-use Rattle.fc_exec.specs.Operations.{executed}
 use Rattle.fc_exec.specs.declared.operations.Operation.{Operation}
 use Rattle.fc_reply.specs.Counting.{each_gets}
 use Rattle.fc_reply.specs.Replies.{reply}
 use Rattle.fc_element.specs.declared.input.ElIn.{ElIn}
 use Rattle.fc_element.specs.declared.input.ElIn.TheVariants.{Opened, Arrived, Closed, Moment}
 use Rattle.fc_element.specs.declared.input.Out.{Out}
+use Rattle.fc_element.specs.declared.notices.Route.{Route}
 use Rattle.fc_element.specs.ElementState.{ElementState}
+use Rattle.fc_element.specs.Notices.{down_to, notice_outs, peers_of, route}
+use Rattle.fc_element.specs.Performing.{Performed, performed}
+use Rattle.fc_element.specs.Sending.{asking, out}
 use Rattle.fc_blocks.specs.Queries.{foreign_selects, told_selects}
 use Rattle.fc_blocks.specs.Settings.{ce_policy, ce_dead, fe_policy, fe_interval}
 
@@ -34,13 +39,6 @@ pub record Turn : Type 0 where
 
 abbrev pub turn : ElementState → List Out → Turn
 turn s outs = record { state = s; outs = outs; done = [] }
-
--- flags that ask for this acknowledgement and nothing else
-abbrev pub asking : ℕ → FlagValues
-asking ack = record { ack = ack; pri = 0; em = 0; at = false; tp = 0 }
-
-abbrev pub out : ℕ → Message → Out
-out peer m = record { peer = peer; message = m }
 
 -- the element asks whoever stands at the other end, by the ID of all control elements, to be associated
 abbrev pub setup_of : ℕ → Message
@@ -58,12 +56,14 @@ answer_with m body = record { source = m.dest; dest = m.source; corr = m.corr; f
 abbrev pub answer_to : Message → Message
 answer_to m = answer_with m Heartbeat
 
--- the state with other associations, and with another configuration
+-- the state with other associations, and with another configuration and other events registered
 abbrev pub with_associations : ElementState → AssociationMap → ElementState
-with_associations s m = record { told = s.told; store = s.store; associations = m; clock = s.clock; last_beat = s.last_beat }
+with_associations s m =
+    record { told = s.told; store = s.store; subscriptions = s.subscriptions; associations = m; clock = s.clock; last_beat = s.last_beat }
 
-abbrev pub with_store : ElementState → Stored → ElementState
-with_store s store = record { told = s.told; store = store; associations = s.associations; clock = s.clock; last_beat = s.last_beat }
+abbrev pub with_blocks : ElementState → Stored → List Subscription → ElementState
+with_blocks s store subs =
+    record { told = s.told; store = store; subscriptions = subs; associations = s.associations; clock = s.clock; last_beat = s.last_beat }
 
 -- the control element that a message comes from was heard
 abbrev pub hearing : ElementState → ℕ → Message → ElementState
@@ -89,7 +89,7 @@ on_heartbeat s peer m =
 -- ---- queries
 -- the selects of the answer
 abbrev pub query_selects : ElementState → Message → List Select → List Select
-query_selects s m selects = if is_own s m then told_selects s.told s.store selects else foreign_selects selects
+query_selects s m selects = if is_own s m then told_selects s.told s.store s.subscriptions selects else foreign_selects selects
 
 abbrev pub query_answer : ElementState → Message → List Select → Message
 query_answer s m selects = answer_with m (QueryResponse (query_selects s m selects))
@@ -115,17 +115,32 @@ all_get s peer m selects code = turn s (responses peer (reply m selects (each_ge
 abbrev pub mode_of : ℕ → Mode
 mode_of em = if em == 1 then AllOrNone else (if em == 2 then UntilFailure else Continue)
 
--- the operations are executed at once
-abbrev pub executing : ElementState → ℕ → Message → List Select → Outcome Stored Operation → Turn
-executing s peer m selects o =
-    record { state = with_store s o.state; outs = responses peer (reply m selects o.codes); done = o.done }
+-- what the operations make of a configuration and of what is registered
+abbrev pub done_by : Message → List Select → Stored → List Subscription → Performed
+done_by m selects store subs = performed (mode_of m.flags.em) store subs selects
+
+-- what is registered once each event was evaluated afterwards, and what is told of them
+abbrev pub evaluated : Performed → List Subscription × List Notice
+evaluated p = reports p.store p.subscriptions
+
+-- what is said: the response, and then the notices
+abbrev pub says : Route → Message → List Select → Performed → List Out
+says r m selects p = responses r.peer (reply m selects p.codes) ++ notice_outs p.store.library r (evaluated p).1
+
+-- the operations are performed at once; the first control element, which sent them over this peer, is told of the events
+abbrev pub executing : ElementState → ℕ → Message → List Select → Performed → Turn
+executing s peer m selects p = record {
+  state = with_blocks s p.store (evaluated p).0;
+  outs = says (route s.told.id s.told.ce peer) m selects p;
+  done = p.done;
+}
 
 -- an element that no life of a control element has claimed is configured by its first control element alone, without transactions
 abbrev pub unclaimed : ElementState → ℕ → Message → List Select → Turn
 unclaimed s peer m selects =
     if not (m.source == s.told.ce) then all_get s peer m selects 12
     else (if m.flags.at then all_get s peer m selects 21
-    else executing s peer m selects (executed (mode_of m.flags.em) s.store selects))
+    else executing s peer m selects (done_by m selects s.store s.subscriptions))
 
 -- the same, and the control element was heard
 abbrev pub renewing : ℕ → Message → Turn → Turn
@@ -142,6 +157,20 @@ by_order s peer m selects =
 abbrev pub on_config : ElementState → ℕ → Message → List Select → Turn
 on_config s peer m selects = if is_associated s m then by_order s peer m selects else turn s []
 
+-- ---- the first control element is gone
+-- its association is not among those that remain
+abbrev pub has_lost : ElementState → AssociationMap → Bool
+has_lost s remaining = is_ce s.told.ce && (contains_key s.associations s.told.ce && not (contains_key remaining s.told.ce))
+
+-- what those are told that remain, by rising ID
+abbrev pub down_outs : ElementState → AssociationMap → List Out
+down_outs s remaining =
+    if has_lost s remaining then flat_map (down_to s.told.id s.store.library s.subscriptions) (peers_of remaining) else []
+
+-- associations have ended, and these remain
+abbrev pub leaving : ElementState → AssociationMap → Turn
+leaving s remaining = turn (with_associations s remaining) (down_outs s remaining)
+
 -- ---- messages
 -- An accepted association to this element is entered or renewed; a heartbeat, a query or a Config renews one, and a teardown ends one.
 -- Everything else is ignored, as is all that comes from a control element without an association.
@@ -149,7 +178,7 @@ abbrev pub on_body : ElementState → ℕ → Message → MsgBody → Turn
 on_body s peer m (Setup selects) = turn s []
 on_body s peer m (SetupResponse result) =
     if is_own s m && result == 0 then turn (with_associations s (entered s.associations m.source peer s.clock)) [] else turn s []
-on_body s peer m (Teardown reason) = turn (with_associations s (remove s.associations m.source)) []
+on_body s peer m (Teardown reason) = leaving s (remove s.associations m.source)
 on_body s peer m (Config selects) = on_config s peer m selects
 on_body s peer m (ConfigResponse selects) = turn s []
 on_body s peer m (Query selects) = on_query s peer m selects
@@ -164,11 +193,15 @@ on_message s peer m = if is_ce m.source then on_body s peer m m.body else turn s
 -- ---- moments
 -- the moment never goes back
 abbrev pub moved_on : ElementState → ℕ → ElementState
-moved_on s moment = record { told = s.told; store = s.store; associations = s.associations; clock = max s.clock moment; last_beat = s.last_beat }
+moved_on s moment =
+    record { told = s.told; store = s.store; subscriptions = s.subscriptions; associations = s.associations; clock = max s.clock moment; last_beat = s.last_beat }
 
--- associations that are silent for too long end, where the element watches them
+-- the associations that remain: those that are silent for too long end, where the element watches them
+abbrev pub remaining_of : ElementState → ℕ → AssociationMap
+remaining_of s now = if ce_policy s.store == 0 then still_heard s.associations now (ce_dead s.store) else s.associations
+
 abbrev pub watched : ElementState → ElementState
-watched s = if ce_policy s.store == 0 then with_associations s (still_heard s.associations s.clock (ce_dead s.store)) else s
+watched s = with_associations s (remaining_of s s.clock)
 
 -- whether heartbeats are due: the element sends them, long enough has passed since the last, and someone is there
 abbrev pub is_due : ElementState → Bool
@@ -180,17 +213,25 @@ abbrev pub beats_of : ℕ → AssociationMap → List Out
 beats_of id m = map (λ pair. out pair.1.peer (heartbeat_of id pair.0)) (entries m)
 
 abbrev pub beaten : ElementState → ElementState
-beaten s = record { told = s.told; store = s.store; associations = s.associations; clock = s.clock; last_beat = s.clock }
+beaten s =
+    record { told = s.told; store = s.store; subscriptions = s.subscriptions; associations = s.associations; clock = s.clock; last_beat = s.clock }
 
 abbrev pub beating : ElementState → Turn
 beating s = if is_due s then turn (beaten s) (beats_of s.told.id s.associations) else turn s []
+
+abbrev pub in_front : List Out → Turn → Turn
+in_front outs t = record { state = t.state; outs = outs ++ t.outs; done = t.done }
+
+-- associations end, with what is told of that, and then heartbeats go out
+abbrev pub on_moment : ElementState → Turn
+on_moment s = in_front (down_outs s (watched s).associations) (beating (watched s))
 
 -- ---- one input
 unfoldable pub step : ElementState → ElIn → Turn
 step s (Opened peer) = turn s (out peer (setup_of s.told.id) ∷ [])
 step s (Arrived peer m) = on_message s peer m
 step s (Closed peer) = turn s []
-step s (Moment moment) = beating (watched (moved_on s moment))
+step s (Moment moment) = on_moment (moved_on s moment)
 
 -- a message that comes is one that the grammar has
 abbrev pub IsProperIn : ElIn → Type 0

@@ -1,6 +1,7 @@
-// Configs and queries that an element takes.
-ghost use Rattle.std.specs.Prelude.{◌≡◌, ◌&&◌, [], IfOk, OnOk, OnErr};
-ghost use Rattle.std.specs.List.{AllByRecursion};
+// Configs that an element takes.
+ghost use Rattle.std.specs.Prelude.{◌≡◌, ◌++◌, ◌&&◌, [], IfOk, OnOk, OnErr, false, true};
+ghost use Rattle.std.specs.List.{AllByRecursion, list_all};
+ghost use Rattle.fc_events.specs.Reports.{reports};
 ghost use Rattle.fc_exec.specs.Operations.{executed};
 ghost use Rattle.fc_msg.specs.Messages.{IsProper, message_fits};
 ghost use Rattle.fc_msg.specs.declared.message.MsgBody.TheVariants.{Config};
@@ -10,29 +11,21 @@ ghost use Rattle.fc_reply.specs.Counting as counting;
 ghost use Rattle.fc_reply.specs.Replies as replies;
 ghost use Rattle.fc_element.specs.ElementMachine as spec;
 ghost use Rattle.fc_element.specs.Beside.{IsBeside};
+ghost use Rattle.fc_element.specs.Notices.{notice_outs};
+ghost use Rattle.fc_element.specs.Performing as performing;
 
 use crate::Out;
+use crate::notices::{Route, can_be_encoded, push_notices};
 use crate::replies::one;
-use fc_base::{Code, List, Memory, WriteFault};
+use fc_base::{Code, Duplicate, List, Memory};
+use fc_events::Subscriptions;
 use fc_exec::exec;
 use fc_modes::Mode;
-use fc_msg::{Message, encode};
-use fc_path::{Select, fits_results};
+use fc_msg::Message;
+use fc_path::{Oper, OperKind, Select, fits_results};
 use fc_reply::{each_gets, reply};
 use fc_store::{Store, StoreMark};
 use std::alloc::Global;
-
-// Whether a message can be encoded.
-fn can_be_encoded(alloc: Global, message: &Message) -> Result<bool, Memory>
-    ensures { IfOk result (λ can. can ≡ message_fits message.now) }
-{
-    let mut bytes = Vec::new(alloc);
-    match encode(message, &mut bytes) {
-        Ok(()) => Ok(true),
-        Err(WriteFault::TooLong) => Ok(false),
-        Err(WriteFault::Memory) => Err(Memory),
-    }
-}
 
 /// Whether the response to a Config may be sent: that of results alone passes no length field, and neither does the Config itself.
 pub fn can_be_answered(alloc: Global, request: &Message, selects: &[Select]) -> Result<bool, Memory>
@@ -44,8 +37,8 @@ pub fn can_be_answered(alloc: Global, request: &Message, selects: &[Select]) -> 
     can_be_encoded(alloc, request)
 }
 
-/// The execution mode of a number other than 0.
-pub fn mode_of(em: u8) -> Mode
+// The execution mode of a number other than 0.
+fn mode_of(em: u8) -> Mode
     ensures { result ≡ spec.mode_of em }
 {
     match em {
@@ -53,6 +46,13 @@ pub fn mode_of(em: u8) -> Mode
         2 => Mode::UntilFailure,
         _ => Mode::Continue,
     }
+}
+
+// The execution mode of a Config that has one.
+fn mode_in(request: &Message) -> Mode
+    ensures { result ≡ spec.mode_of request.now.flags.em }
+{
+    mode_of(request.flags.em)
 }
 
 // The response to a Config whose operations have these codes, if one is sent.
@@ -92,23 +92,122 @@ pub fn refusals(
     responses(alloc, peer, request, selects, codes.as_slice())
 }
 
-// Executes the operations of a Config, and gives the response. After an `Err` what the instances hold now may differ.
+fn is_set_prop(kind: OperKind) -> bool
+    ensures { result ≡ performing.is_set_prop kind }
+{
+    match kind {
+        OperKind::SetProp => true,
+        _ => false,
+    }
+}
+
+fn sets_props(oper: &Oper) -> bool
+    ensures { result ≡ performing.sets_props oper.now }
+{
+    match oper {
+        Oper::Paths(kind, _) => is_set_prop(*kind),
+        Oper::Commit => false,
+        Oper::Trcomp => false,
+        Oper::CommitResponse(_) => false,
+    }
+}
+
+// Whether all operations of a select are SET-PROP.
+fn selects_props(select: &Select) -> bool
+    ensures { result ≡ list_all performing.sets_props select.now.opers }
+{
+    select.opers.as_slice().iter().all(|oper| sets_props(oper))
+}
+
+/// Whether all operations of selects are SET-PROP.
+pub fn are_props(selects: &[Select]) -> bool
+    ensures { result ≡ performing.are_props selects.now }
+{
+    selects.iter().all(|select| selects_props(select))
+}
+
+// Evaluates each event, and gives the response to a Config whose operations have these codes, and then the notices.
 fn answered(
     alloc: Global,
-    store: &mut Store,
-    peer: u32,
+    store: &Store,
+    subscriptions: &mut Subscriptions,
+    route: Route,
+    request: &Message,
+    selects: &[Select],
+    codes: &[Code],
+) -> Result<List<Out>, Memory>
+    requires proper { IsProper request.now }
+    requires body { request.now.body ≡ Config selects.now }
+    ensures outs { IfOk result (λ outs. outs ≡ spec.responses route.peer (replies.reply request.now selects.now codes.now) ++ notice_outs store.now.library route (reports store.now subscriptions.old).1) }
+    ensures proper { IfOk result (λ outs. AllByRecursion spec.IsSaid outs) }
+    ensures ok { OnOk result (subscriptions.new ≡ (reports store.now subscriptions.old).0) }
+{
+    let notices = subscriptions.reports(store)?;
+    let mut outs = responses(alloc, route.peer, request, selects, codes)?;
+    push_notices(&mut outs, store.library(), route, notices.as_slice())?;
+    Ok(outs)
+}
+
+// Registers events, and gives the response and the notices. After an `Err` nothing has changed.
+fn register(
+    alloc: Global,
+    store: &Store,
+    subscriptions: &mut Subscriptions,
+    route: Route,
     request: &Message,
     selects: &[Select],
 ) -> Result<List<Out>, Memory>
     requires proper { IsProper request.now }
     requires body { request.now.body ≡ Config selects.now }
-    ensures outs { IfOk result (λ outs. outs ≡ spec.responses peer (replies.reply request.now selects.now (executed (spec.mode_of request.now.flags.em) store.old selects.now).codes)) }
+    requires props { performing.are_props selects.now ≡ true }
+    ensures outs { IfOk result (λ outs. outs ≡ spec.says route request.now selects.now (spec.done_by request.now selects.now store.now subscriptions.old)) }
     ensures proper { IfOk result (λ outs. AllByRecursion spec.IsSaid outs) }
-    ensures ok { OnOk result (store.new ≡ (executed (spec.mode_of request.now.flags.em) store.old selects.now).state) }
+    ensures store { OnOk result (store.now ≡ (spec.done_by request.now selects.now store.now subscriptions.old).store) }
+    ensures ok { OnOk result (subscriptions.new ≡ (spec.evaluated (spec.done_by request.now selects.now store.now subscriptions.old)).0) }
+    ensures err { OnErr result (subscriptions.new ≡ subscriptions.old) }
+{
+    let mut others = subscriptions.copy()?;
+    let codes = others.exec_prop(store, selects, mode_in(request))?;
+    let outs = answered(
+        alloc,
+        store,
+        &mut others,
+        route,
+        request,
+        selects,
+        codes.as_slice(),
+    )?;
+    *subscriptions = others;
+    Ok(outs)
+}
+
+// Executes operations on the store, and gives the response and the notices. After an `Err` what the instances hold now may differ.
+fn changed(
+    alloc: Global,
+    store: &mut Store,
+    subscriptions: &mut Subscriptions,
+    route: Route,
+    request: &Message,
+    selects: &[Select],
+) -> Result<List<Out>, Memory>
+    requires proper { IsProper request.now }
+    requires body { request.now.body ≡ Config selects.now }
+    ensures outs { IfOk result (λ outs. outs ≡ spec.responses route.peer (replies.reply request.now selects.now (executed (spec.mode_of request.now.flags.em) store.old selects.now).codes) ++ notice_outs store.new.library route (reports store.new subscriptions.old).1) }
+    ensures proper { IfOk result (λ outs. AllByRecursion spec.IsSaid outs) }
+    ensures store { OnOk result (store.new ≡ (executed (spec.mode_of request.now.flags.em) store.old selects.now).state) }
+    ensures ok { OnOk result (subscriptions.new ≡ (reports store.new subscriptions.old).0) }
     ensures err { OnErr result (IsBeside store.old store.new) }
 {
-    let codes = exec(alloc, store, selects, mode_of(request.flags.em))?;
-    responses(alloc, peer, request, selects, codes.as_slice())
+    let codes = exec(alloc, store, selects, mode_in(request))?;
+    answered(
+        alloc,
+        store,
+        subscriptions,
+        route,
+        request,
+        selects,
+        codes.as_slice(),
+    )
 }
 
 // Marks all instances.
@@ -122,30 +221,62 @@ fn mark_all(store: &mut Store) -> Result<StoreMark, Memory>
     store.mark()
 }
 
-/// Executes the operations of a Config, and gives the response. After an `Err` the store is as before.
-pub fn execute(
+// The same, but that after an `Err` nothing has changed.
+fn change(
     alloc: Global,
     store: &mut Store,
-    peer: u32,
+    subscriptions: &mut Subscriptions,
+    route: Route,
     request: &Message,
     selects: &[Select],
 ) -> Result<List<Out>, Memory>
     requires proper { IsProper request.now }
     requires body { request.now.body ≡ Config selects.now }
-    ensures outs { IfOk result (λ outs. outs ≡ spec.responses peer (replies.reply request.now selects.now (executed (spec.mode_of request.now.flags.em) store.old selects.now).codes)) }
+    requires props { performing.are_props selects.now ≡ false }
+    ensures outs { IfOk result (λ outs. outs ≡ spec.says route request.now selects.now (spec.done_by request.now selects.now store.old subscriptions.old)) }
     ensures proper { IfOk result (λ outs. AllByRecursion spec.IsSaid outs) }
-    ensures ok { OnOk result (store.new ≡ (executed (spec.mode_of request.now.flags.em) store.old selects.now).state) }
-    ensures err { OnErr result (store.new ≡ store.old) }
+    ensures store { OnOk result (store.new ≡ (spec.done_by request.now selects.now store.old subscriptions.old).store) }
+    ensures ok { OnOk result (subscriptions.new ≡ (spec.evaluated (spec.done_by request.now selects.now store.old subscriptions.old)).0) }
+    ensures stays { OnErr result (store.new ≡ store.old) }
+    ensures err { OnErr result (subscriptions.new ≡ subscriptions.old) }
 {
+    let mut others = subscriptions.copy()?;
     let mark = mark_all(store)?;
-    match answered(alloc, store, peer, request, selects) {
+    match changed(alloc, store, &mut others, route, request, selects) {
         Ok(outs) => {
             store.release(mark);
+            *subscriptions = others;
             Ok(outs)
         }
         Err(fault) => {
             store.rollback(mark);
             Err(fault)
         }
+    }
+}
+
+/// Performs the operations of a Config, evaluates each event, and gives the response and then the notices. After an `Err` nothing has
+/// changed.
+pub fn execute(
+    alloc: Global,
+    store: &mut Store,
+    subscriptions: &mut Subscriptions,
+    route: Route,
+    request: &Message,
+    selects: &[Select],
+) -> Result<List<Out>, Memory>
+    requires proper { IsProper request.now }
+    requires body { request.now.body ≡ Config selects.now }
+    ensures outs { IfOk result (λ outs. outs ≡ spec.says route request.now selects.now (spec.done_by request.now selects.now store.old subscriptions.old)) }
+    ensures proper { IfOk result (λ outs. AllByRecursion spec.IsSaid outs) }
+    ensures store { OnOk result (store.new ≡ (spec.done_by request.now selects.now store.old subscriptions.old).store) }
+    ensures ok { OnOk result (subscriptions.new ≡ (spec.evaluated (spec.done_by request.now selects.now store.old subscriptions.old)).0) }
+    ensures stays { OnErr result (store.new ≡ store.old) }
+    ensures err { OnErr result (subscriptions.new ≡ subscriptions.old) }
+{
+    if are_props(selects) {
+        register(alloc, store, subscriptions, route, request, selects)
+    } else {
+        change(alloc, store, subscriptions, route, request, selects)
     }
 }

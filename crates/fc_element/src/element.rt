@@ -5,18 +5,21 @@ ghost use Rattle.fc_types.specs.Libraries.{AreKnown, is_own};
 ghost use Rattle.fc_msg.specs.Messages.{IsProper, ProperSelects};
 ghost use Rattle.fc_path.specs.Results.{results_fit};
 ghost use Rattle.fc_msg.specs.declared.message.MsgBody.TheVariants.{Config, Query};
-ghost use Rattle.fc_element.specs.ElementMachine.{CanBeSent, IsProperIn, IsSaid, all_get, beating, by_order, is_due, moved_on, on_body, on_config, on_message, on_query, query_outs, query_selects, step, unclaimed, watched};
+ghost use Rattle.fc_element.specs.ElementMachine.{CanBeSent, IsProperIn, IsSaid, by_order, down_outs, has_lost, is_due, leaving, moved_on, on_body, on_config, on_message, on_moment, on_query, query_outs, query_selects, remaining_of, step, unclaimed};
 ghost use Rattle.fc_element.specs.ElementState.{opened};
 ghost use Rattle.fc_element.specs.Reports.{report_of};
 ghost use Rattle.fc_blocks.specs.Settings.{settings_in as settings_of};
+ghost use Rattle.std.specs.FinMap.{remove};
 
 use crate::config::{can_be_answered, execute, refusals};
+use crate::notices::{Route, told_down};
 use crate::replies::{ALWAYS, answer, one, push_beats, query_answer, setup};
 use crate::report::{push_config, report_line};
 use crate::{ElIn, Out};
 use fc_assoc::Associations;
-use fc_base::{CeId, Code, FeId, List, Memory};
+use fc_base::{CeId, Code, Duplicate, FeId, List, Memory};
 use fc_blocks::{HeartbeatSettings, foreign_selects, open_blocks, settings_in, told_selects};
+use fc_events::Subscriptions;
 use fc_lfbs::LiveState;
 use fc_msg::{Message, MsgBody};
 use fc_path::{Select, fits_results};
@@ -30,6 +33,7 @@ use std::marker::Model;
 pub struct Element {
     live: LiveState,
     store: Store,
+    subscriptions: Subscriptions,
     associations: Associations,
     clock: u64,
     last_beat: u64,
@@ -43,12 +47,12 @@ impl Model for Element {
 
     ghost coded = { state_code };
 
-    ghost view = { λ s. record { told = s.live; store = s.store; associations = s.associations; clock = s.clock; last_beat = s.last_beat } };
+    ghost view = { λ s. record { told = s.live; store = s.store; subscriptions = s.subscriptions; associations = s.associations; clock = s.clock; last_beat = s.last_beat } };
 }
 
 impl Element {
     /// An element with this ID, a library and instances to which it adds its own, and the control element that is to configure it. It has
-    /// no association, its components have their opening values, and its moment is 0.
+    /// no association, its components have their opening values, no event is registered, and its moment is 0.
     pub fn new(
         alloc: Global,
         id: FeId,
@@ -64,6 +68,7 @@ impl Element {
         Ok(Element {
             live,
             store,
+            subscriptions: Subscriptions::new(alloc),
             associations: Associations::new(alloc),
             clock: 0,
             last_beat: 0,
@@ -132,10 +137,7 @@ impl Element {
                 }
                 Ok(none)
             }
-            MsgBody::Teardown(_) => {
-                self.associations.teardown(ce);
-                Ok(none)
-            }
+            MsgBody::Teardown(_) => self.torn_down(ce),
             MsgBody::Heartbeat => {
                 let is_asked = self.associations.peer_of(ce).is_some()
                     && message.flags.ack == ALWAYS;
@@ -154,6 +156,44 @@ impl Element {
             | MsgBody::QueryResponse(_)
             | MsgBody::Event(_) => Ok(none),
         }
+    }
+
+    // A control element ends its association.
+    fn torn_down(&mut self, ce: CeId) -> Result<List<Out>, Memory>
+        ensures outs { IfOk result (λ outs. outs ≡ (leaving self.old (remove self.old.associations ce)).outs) }
+        ensures proper { IfOk result (λ outs. AllByRecursion IsSaid outs) }
+        ensures ok { OnOk result (self.new ≡ (leaving self.old (remove self.old.associations ce)).state) }
+        ensures err { OnErr result (self.new ≡ self.old) }
+    {
+        let mut remaining = self.associations.copy()?;
+        remaining.teardown(ce);
+        let outs = self.down_outs(&remaining)?;
+        self.associations = remaining;
+        Ok(outs)
+    }
+
+    // Whether the first control element has an association, and is not among those that remain.
+    fn has_lost(&self, remaining: &Associations) -> bool
+        ensures { result ≡ has_lost self.now remaining.now }
+    {
+        match CeId::of(self.live.ce) {
+            None => false,
+            Some(ce) => {
+                self.associations.peer_of(ce).is_some() && remaining.peer_of(ce).is_none()
+            }
+        }
+    }
+
+    // What those are told that remain, where the association of the first control element ends.
+    fn down_outs(&self, remaining: &Associations) -> Result<List<Out>, Memory>
+        ensures outs { IfOk result (λ outs. outs ≡ down_outs self.now remaining.now) }
+        ensures proper { IfOk result (λ outs. AllByRecursion IsSaid outs) }
+    {
+        if !self.has_lost(remaining) {
+            return Ok(List::new(self.alloc));
+        }
+        let (library, id) = (self.store.library(), self.live.id);
+        told_down(self.alloc, library, id, &self.subscriptions, remaining)
     }
 
     // A query came.
@@ -202,7 +242,13 @@ impl Element {
         ensures proper { IfOk result (λ others. ProperSelects 20 others) }
     {
         if message.dest == self.live.id.get() {
-            told_selects(self.alloc, &self.live, &self.store, selects)
+            told_selects(
+                self.alloc,
+                &self.live,
+                &self.store,
+                &self.subscriptions,
+                selects,
+            )
         } else {
             foreign_selects(self.alloc, selects)
         }
@@ -286,22 +332,46 @@ impl Element {
         if message.flags.at {
             return refusals(self.alloc, peer, message, selects, Code::NOT_SUPPORTED);
         }
-        execute(self.alloc, &mut self.store, peer, message, selects)
+        let route = Route {
+            from: self.live.id.get(),
+            to: self.live.ce,
+            peer,
+        };
+        execute(
+            self.alloc,
+            &mut self.store,
+            &mut self.subscriptions,
+            route,
+            message,
+            selects,
+        )
+    }
+
+    // The associations that remain at a moment, where silent ones end by the settings that the configuration has.
+    fn remaining(&self, now: u64, settings: &HeartbeatSettings) -> Result<Associations, Memory>
+        requires { settings.now ≡ settings_of self.now.store }
+        ensures { IfOk result (λ remaining. remaining ≡ remaining_of self.now now) }
+    {
+        let mut remaining = self.associations.copy()?;
+        if settings.ce_policy == 0 {
+            remaining.moment(now, settings.ce_dead)?;
+        }
+        Ok(remaining)
     }
 
     // It is this moment.
     fn moment(&mut self, moment: u64) -> Result<List<Out>, Memory>
-        ensures outs { IfOk result (λ outs. outs ≡ (beating (watched (moved_on self.old moment))).outs) }
+        ensures outs { IfOk result (λ outs. outs ≡ (on_moment (moved_on self.old moment)).outs) }
         ensures proper { IfOk result (λ outs. AllByRecursion IsSaid outs) }
-        ensures ok { OnOk result (self.new ≡ (beating (watched (moved_on self.old moment))).state) }
+        ensures ok { OnOk result (self.new ≡ (on_moment (moved_on self.old moment)).state) }
         ensures err { OnErr result (self.new ≡ self.old) }
     {
         let settings = settings_in(self.alloc, &self.store)?;
-        let mut outs = Vec::with_capacity(self.alloc, Associations::MOST)?;
         let now = self.clock.max(moment);
-        if settings.ce_policy == 0 {
-            self.associations.moment(now, settings.ce_dead)?;
-        }
+        let remaining = self.remaining(now, &settings)?;
+        let mut outs = self.down_outs(&remaining)?.into_vec();
+        outs.reserve(Associations::MOST)?;
+        self.associations = remaining;
         self.clock = now;
         if self.is_due(&settings) {
             push_beats(self.live.id, &self.associations, &mut outs);

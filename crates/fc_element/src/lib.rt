@@ -1,11 +1,12 @@
 //! A forwarding element as a machine: what comes in, what goes out, and what it holds in between (RFC 5810, section 4,
-//! and RFC 7121). It associates with control elements and holds the associations by heartbeats, answers queries, and is configured.
+//! and RFC 7121). It associates with control elements and holds the associations by heartbeats, answers queries, is configured, and tells of events.
 #![tactic(auto)]
 
 mod config;
 mod element;
 mod input;
 mod laws;
+mod notices;
 mod replies;
 mod report;
 

@@ -6,4 +6,4 @@ pub query-requires-clause-queried : goal.query-requires-clause-queried
 query-requires-clause-queried c = all_asked c.args.selects.now c.requires.proper.1
 
 pub returns-clause-proper : goal.returns-clause-proper
-returns-clause-proper c = told_proper c.args.live.now c.args.store.now c.args.selects.now c.query.result c.requires.proper c.query.ensures
+returns-clause-proper c = told_proper c.args.live.now c.args.store.now c.deref.result.now c.args.selects.now c.query.result c.requires.proper c.query.ensures

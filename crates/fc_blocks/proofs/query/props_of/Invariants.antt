@@ -1,0 +1,6 @@
+use Rattle.std.proofs.Common.{◌≡◌, take}
+use Rattle.fc_blocks.specs.Queries.{props_of}
+use Rattle.fc_blocks.proofs.query.props_of.Given as goal
+
+abbrev pub invariant-loop-question : goal.invariant-loop-question
+invariant-loop-question l = l.props.items ≡ props_of l.live l.store l.subscriptions (take l.question-index l.question-items)
