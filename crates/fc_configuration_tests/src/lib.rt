@@ -1,16 +1,18 @@
-//! Tests of whole configurations: structs with tables in them, tables that are full, all instances at once, the built-in classes, and refused
-//! memory.
+//! Tests of configurations: tables of operations, one after the other, each with what it answers and what is then held; and tables that are full,
+//! all instances at once, the built-in classes, and refused memory.
 #![tactic(auto)]
 
 #[cfg(test)]
-mod calls;
+mod causes;
 #[cfg(test)]
 mod full;
 #[cfg(test)]
-mod instances;
+mod library;
 #[cfg(test)]
-mod memory;
+mod tables;
 #[cfg(test)]
-mod own;
+mod trial;
 #[cfg(test)]
-mod parts;
+mod words;
+#[cfg(test)]
+mod worked;

@@ -28,25 +28,6 @@ pub(crate) fn keys(alloc: Global) -> Result<List<KeyDecl>, Memory> {
     Ok(keys)
 }
 
-// A name, a number and a truth value.
-pub(crate) fn port(alloc: Global) -> Result<List<Field>, Memory> {
-    let mut fields = List::new(alloc);
-    fields.push(field(alloc, 1, "name", Ty::String { length: 16 })?)?;
-    fields.push(field(alloc, 2, "mtu", word())?)?;
-    fields.push(field(alloc, 3, "up", Ty::Bool)?)?;
-    Ok(fields)
-}
-
-// At most two ports, told apart by their names.
-pub(crate) fn ports(alloc: Global) -> Result<Ty, Memory> {
-    let fields = port(alloc)?;
-    Ok(Ty::Array {
-        entry: Boxed::new(alloc, Ty::Struct { fields })?,
-        entries: 2,
-        keys: keys(alloc)?,
-    })
-}
-
 pub(crate) fn pair(alloc: Global) -> Result<List<Field>, Memory> {
     let mut fields = List::new(alloc);
     fields.push(field(alloc, 1, "first", word())?)?;
