@@ -1,12 +1,15 @@
 // Documents, with the library or the line that comes of each.
 mod accepted;
 mod checks;
+mod formed;
+mod forms;
 mod keys;
 mod kinds;
 mod port;
 mod refused;
 
 use fc_library::{LibFault, library_from_slice, refusal};
+pub(crate) use port::PORT;
 use std::alloc::Global;
 use std::test::Fail;
 

@@ -2,10 +2,6 @@
 #![tactic(auto)]
 
 #[cfg(test)]
-mod class_checks;
-#[cfg(test)]
-mod declarations;
-#[cfg(test)]
 mod digits;
 #[cfg(test)]
 mod documents;
@@ -20,7 +16,7 @@ mod places;
 #[cfg(test)]
 mod ports;
 #[cfg(test)]
-mod type_checks;
+mod types;
 #[cfg(test)]
 mod values;
 #[cfg(test)]

@@ -4,55 +4,64 @@ ghost use Rattle.fc_types.specs.BuiltIn.{is_live};
 ghost use Rattle.fc_value.specs.declared.value.Value.TheVariants.{Number};
 
 use crate::digits::bytes_of;
-use crate::kinds::{
-    Kind, key, keyed, number, pair_value, port, port_value, raw, text, two, value_of,
-};
+use crate::kinds::{Kind, key, number, pair_value, port_value, raw, text, two, ty_of, value_of};
 use fc_base::{List, Memory};
 use fc_types::{Ty, is_live};
 use fc_value::{Live, Value, first, key_value, node, replace_node};
+use std::alloc::Global;
 use std::test::Fail;
+
+// What a type of a kind begins with.
+fn opening(alloc: Global, kind: Kind) -> Result<Value, Memory> {
+    match kind {
+        Kind::Port => port_value(alloc, "", 0, false),
+        Kind::Bytes => raw(alloc, "000000"),
+        Kind::Octets => raw(alloc, ""),
+        _ => Ok(Value::Table(List::new(alloc))),
+    }
+}
+
+fn opens(alloc: Global, ty: &Ty, wanted: &Value) -> Result<bool, Memory> {
+    Ok(first(alloc, ty)? == *wanted)
+}
 
 #[test]
 fn opening_values(rt: HostRuntime) -> Result<(), Fail> {
     let alloc = rt.alloc();
     for (min, max, nearest) in [(0, 9, 0), (5, 9, 5), (-9, -5, -5), (-9, 9, 0)] {
-        let value = first(alloc, &number(1, true, min, max))?;
-        assert_eq!(rt; value, Value::Number(nearest));
+        let ty = number(1, true, min, max);
+        assert!(rt; opens(alloc, &ty, &Value::Number(nearest))?, "{min}");
     }
-    assert_eq!(rt;
-        first(alloc, &port(alloc)?)?,
-        port_value(alloc, "", 0, false)?
-    );
-    assert_eq!(rt;
-        first(alloc, &keyed(alloc)?)?,
-        Value::Table(List::new(alloc))
-    );
-    assert_eq!(rt;
-        first(alloc, &Ty::Bytes { length: 2 })?,
-        raw(alloc, "0000")?
-    );
-    assert_eq!(rt; first(alloc, &Ty::Octets { length: 2 })?, raw(alloc, "")?);
+    for kind in [Kind::Port, Kind::Keyed, Kind::Bytes, Kind::Octets] {
+        let ty = ty_of(alloc, kind)?;
+        let wanted = opening(alloc, kind)?;
+        assert!(rt; opens(alloc, &ty, &wanted)?, "{kind:?}");
+    }
     Ok(())
+}
+
+// Whether nothing stands at a place, nor is anything put there.
+fn is_absent(value: &mut Value, places: &[usize]) -> bool {
+    node(value, places).is_none()
+        && replace_node(value, places, Value::Truth(true)).err() == Some(Value::Truth(true))
+}
+
+// Whether a number stands at a place.
+fn is_number(value: &Value, places: &[usize], number: i128) -> bool {
+    node(value, places) == Some(&Value::Number(number))
 }
 
 #[test]
 fn nodes_of_values(rt: HostRuntime) -> Result<(), Fail> {
-    let alloc = rt.alloc();
-    let mut value = value_of(alloc, Kind::Holder)?;
-    let rows: [(&[usize], i128); 2] = [(&[0, 0, 0], 5), (&[0, 1, 0], 6)];
-    for (places, number) in rows {
-        assert!(rt; node(&value, places) == Some(&Value::Number(number)));
-    }
+    let mut value = value_of(rt.alloc(), Kind::Holder)?;
     let absent: [&[usize]; 4] = [&[2], &[0, 2], &[0, 0, 0, 0], &[1, 0]];
     for places in absent {
-        assert!(rt; node(&value, places).is_none());
-        let left = replace_node(&mut value, places, Value::Truth(true)).err();
-        assert!(rt; left == Some(Value::Truth(true)));
+        assert!(rt; is_absent(&mut value, places));
     }
+    assert!(rt; is_number(&value, &[0, 0, 0], 5) && is_number(&value, &[0, 1, 0], 6));
     let before = replace_node(&mut value, &[0, 1, 0], Value::Number(7)).ok();
     assert!(rt; before == Some(Value::Number(6)));
-    assert!(rt; node(&value, &[0, 1, 0]) == Some(&Value::Number(7)));
-    assert!(rt; node(&value, &[0, 0, 0]) == Some(&Value::Number(5)));
+    assert!(rt; is_number(&value, &[0, 0, 0], 5) && is_number(&value, &[0, 1, 0], 7));
     Ok(())
 }
 

@@ -1,6 +1,6 @@
 // Values of the types that hold the most: a struct of 1,023 fields, a text and bytes of 65,531, and a list of many operations.
 use crate::kinds::{field, key, one};
-use fc_base::{Code, List, Memory, Octets};
+use fc_base::{Code, List, Memory, Octets, OpFault};
 use fc_modes::{CopyingMap, EntryOp, Mode, run_mode};
 use fc_types::{Field, Ty};
 use fc_value::{Value, first, key_value, read_full, read_sparse, write_full};
@@ -88,26 +88,31 @@ fn parts_name_every_field(rt: HostRuntime) -> Result<(), Fail> {
     Ok(())
 }
 
+// Whether bytes are a value of a type, of which they are written again.
+fn comes_back(alloc: Global, ty: &Ty, bytes: &[u8]) -> Result<bool, OpFault> {
+    let value = read_full(alloc, ty, bytes)?;
+    let mut written = Vec::new(alloc);
+    write_full(ty, &value, &mut written)?;
+    Ok(written.as_slice() == bytes)
+}
+
+// The full form of a struct of these bytes alone.
+fn held(alloc: Global, bytes: &[u8]) -> Result<Vec<u8>, Memory> {
+    let mut longer = Vec::from_slice(alloc, &[0x01, 0x12, 0xFF, 0xFF])?;
+    longer.extend_from_slice(bytes)?;
+    longer.push(0)?;
+    Ok(longer)
+}
+
 #[test]
 fn the_longest_text_and_bytes_are_read_and_written(rt: HostRuntime) -> Result<(), Fail> {
     let alloc = rt.alloc();
     let given = same(alloc, b'a', BYTES)?;
+    let longer = held(alloc, &given)?;
     for ty in [Ty::String { length: 65_531 }, Ty::Octets { length: 65_531 }] {
-        let value = read_full(alloc, &ty, &given)?;
-        let mut bytes = Vec::new(alloc);
-        write_full(&ty, &value, &mut bytes)?;
-        assert!(rt; bytes == given);
-        let held = Ty::Struct {
-            fields: one(alloc, ty)?,
-        };
-        let mut longer = Vec::new(alloc);
-        longer.extend_from_slice(&[0x01, 0x12, 0xFF, 0xFF])?;
-        longer.extend_from_slice(&given)?;
-        longer.push(0)?;
-        let inner = read_full(alloc, &held, &longer)?;
-        let mut bytes = Vec::new(alloc);
-        write_full(&held, &inner, &mut bytes)?;
-        assert!(rt; bytes == longer);
+        assert!(rt; comes_back(alloc, &ty, &given)?);
+        let fields = one(alloc, ty)?;
+        assert!(rt; comes_back(alloc, &Ty::Struct { fields }, &longer)?);
     }
     Ok(())
 }

@@ -49,13 +49,10 @@ fn faults_have_their_lines(rt: HostRuntime) -> Result<(), Fail> {
 #[test]
 fn a_long_key_stands_whole_in_its_line(rt: HostRuntime) -> Result<(), Fail> {
     let alloc = rt.alloc();
-    let mut key = Vec::new(alloc);
-    key.resize(1_000_000, b'k')?;
-    let mut document = Vec::from_slice(alloc, &key)?;
-    document.extend_from_slice(b" = 1\n")?;
-    let mut wanted = Vec::from_slice(alloc, b"refused library unknown ")?;
-    wanted.extend_from_slice(&key)?;
-    wanted.push(b'\n')?;
-    assert!(rt; line(alloc, &document)? == wanted);
+    let key = "k".repeat(alloc, 1_000_000)?;
+    let document = format!(in alloc; "{key} = 1\n")?;
+    let wanted = format!(in alloc; "refused library unknown {key}\n")?;
+    let told = line(alloc, document.as_bytes())?;
+    assert!(rt; told.as_slice() == wanted.as_bytes());
     Ok(())
 }
