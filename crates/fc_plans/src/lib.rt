@@ -7,6 +7,7 @@ mod components;
 mod fault;
 mod mastership;
 mod plan;
+mod scopes;
 
 pub use change::Change;
 pub use components::{EPOCH, FLOOR, HELD, OPENING, SUBJECT, TRANSACTION_KEY, TRANSACTIONS};
@@ -16,3 +17,4 @@ pub use mastership::{
     with_subject,
 };
 pub use plan::{MOST_CHANGES, Part, TxnPlan};
+pub use scopes::MOST_INSTANCES;

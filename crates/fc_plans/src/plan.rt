@@ -1,5 +1,5 @@
 // Plans of transactions.
-ghost use Rattle.std.specs.Prelude.{◌≡◌, ◌≢◌, ◌<◌, None, Some, IfOk, IfErr, OnOk, nat_lt};
+ghost use Rattle.std.specs.Prelude.{◌≡◌, ◌≢◌, ◌<◌, None, Some, IfOk, IfErr, OnOk, nat_lt, map};
 ghost use Rattle.std.specs.List.{list_all};
 ghost use Rattle.fc_plans.specs.Plans as spec;
 ghost use Rattle.fc_plans.specs.Plans.{plan_fault};
@@ -7,7 +7,8 @@ ghost use Rattle.fc_plans.specs.declared.fault.PlanFault.TheVariants as fault;
 
 use crate::change::Change;
 use crate::fault::PlanFault;
-use fc_base::{FeId, List};
+use crate::scopes::scoped_parts;
+use fc_base::{FeId, List, Memory};
 use std::marker::Model;
 
 /// The most changes of a participant.
@@ -86,23 +87,68 @@ fn all_have_changes(parts: &[Part]) -> bool
     true
 }
 
+// Why parts are no plan, but for their scopes.
+fn fault_of(parts: &[Part]) -> Option<PlanFault>
+    ensures { result ≡ spec.order_fault parts.now }
+{
+    if parts.is_empty() {
+        return Some(PlanFault::Empty);
+    }
+    if !is_rising(parts) {
+        return Some(PlanFault::Order);
+    }
+    if !all_have_changes(parts) {
+        return Some(PlanFault::Changes);
+    }
+    None
+}
+
+// The parts of these participants with their changes, each of which may change everything.
+fn whole_parts(parts: List<(FeId, List<Change>)>) -> Result<List<Part>, Memory>
+    ensures { IfOk result (λ others. others ≡ map spec.whole parts) }
+{
+    let alloc = parts.alloc();
+    let mut others = List::new(alloc);
+    for (element, changes) in parts.into_vec() {
+        others.push(Part {
+            element,
+            changes,
+            scope: List::new(alloc),
+        })?;
+    }
+    Ok(others)
+}
+
 impl TxnPlan {
-    /// The transaction of these participants. The faults are looked for in the order of [`PlanFault`].
-    pub fn of(parts: List<Part>) -> Result<TxnPlan, PlanFault>
-        ensures refused { IfErr result (λ e. plan_fault parts ≡ Some e) }
-        ensures accepted { OnOk result (plan_fault parts ≡ None) }
-        ensures same { IfOk result (λ plan. plan ≡ parts) }
+    /// The transaction of these participants with their changes, which may change everything at each of them. The faults are looked for in
+    /// the order of [`PlanFault`].
+    pub fn of(parts: List<(FeId, List<Change>)>) -> Result<TxnPlan, PlanFault>
+        ensures refused { IfErr result (λ e. e ≢ fault.Memory → plan_fault (map spec.whole parts) ≡ Some e) }
+        ensures accepted { OnOk result (plan_fault (map spec.whole parts) ≡ None) }
+        ensures same { IfOk result (λ plan. plan ≡ map spec.whole parts) }
     {
-        if parts.is_empty() {
-            return Err(PlanFault::Empty);
+        let parts = whole_parts(parts)?;
+        match fault_of(parts.as_slice()) {
+            Some(fault) => Err(fault),
+            None => Ok(TxnPlan { parts }),
         }
-        if !is_rising(parts.as_slice()) {
-            return Err(PlanFault::Order);
+    }
+
+    /// The transaction of these participants with their changes, which may change at each of them the LFB instances that its changes name
+    /// there and nothing else. The faults are looked for in the order of [`PlanFault`].
+    pub fn scoped(parts: List<(FeId, List<Change>)>) -> Result<TxnPlan, PlanFault>
+        ensures refused { IfErr result (λ e. e ≢ fault.Memory → plan_fault (map spec.scoped parts) ≡ Some e) }
+        ensures accepted { OnOk result (plan_fault (map spec.scoped parts) ≡ None) }
+        ensures same { IfOk result (λ plan. plan ≡ map spec.scoped parts) }
+    {
+        let parts = whole_parts(parts)?;
+        match fault_of(parts.as_slice()) {
+            Some(fault) => Err(fault),
+            None => match scoped_parts(parts)? {
+                None => Err(PlanFault::Changes),
+                Some(parts) => Ok(TxnPlan { parts }),
+            },
         }
-        if !all_have_changes(parts.as_slice()) {
-            return Err(PlanFault::Changes);
-        }
-        Ok(TxnPlan { parts })
     }
 
     /// The participants, by rising ID, each with its changes and its scope.
