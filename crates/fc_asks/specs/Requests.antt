@@ -1,15 +1,12 @@
 -- The messages that a master sends (RFC 5810, sections 7.5 to 7.7, 7.10 and 4.3.1.2.2; class Mastership is this profile's own).
-use Rattle.std.specs.Prelude.{ℕ, ◌+◌, ◌/◌, ◌%◌, ◌^◌, Bool, true, false, List, [], ◌∷◌, ◌++◌, length, Option, Some, None}
+use Rattle.std.specs.Prelude.{ℕ, ◌+◌, ◌/◌, ◌%◌, ◌^◌, Bool, true, false, List, [], ◌∷◌, ◌++◌, length, Some, None}
 use Rattle.fc_base.specs.Ids.{Txn}
 use Rattle.fc_wire.specs.Bytes.{u32_bytes}
 use Rattle.fc_wire.specs.Flags.{FlagValues}
 use Rattle.fc_path.specs.declared.oper.OperKind.TheVariants as kinds
-use Rattle.fc_path.specs.declared.oper.Oper.{Oper}
 use Rattle.fc_path.specs.declared.oper.Oper.TheVariants as oper
 use Rattle.fc_path.specs.declared.oper.Select.{Select}
-use Rattle.fc_path.specs.declared.path.Key.{Key}
-use Rattle.fc_path.specs.declared.path.PathData.{PathData, roll-PathData}
-use Rattle.fc_path.specs.declared.path.Body.{Body as Said}
+use Rattle.fc_path.specs.declared.path.PathData.{PathData}
 use Rattle.fc_path.specs.declared.path.Body.TheVariants as body
 use Rattle.fc_msg.specs.declared.message.Message.{Message}
 use Rattle.fc_msg.specs.declared.message.MsgBody.TheVariants.{Config, Query}

@@ -11,7 +11,7 @@ mod requests;
 
 pub use asks::{Asks, Question};
 pub use codes::read_code;
-pub use fc_plans::{Change, Part, TxnPlan};
+pub use fc_plans::{Change, ChangeFault, Part, PlanFault, TxnPlan};
 pub use life::Life;
 pub use queries::{HeldAnswer, RecordAnswer, read_held, read_record};
-pub use requests::request;
+pub use requests::{plain_request, request};

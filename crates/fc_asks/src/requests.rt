@@ -1,5 +1,5 @@
 // The messages that a control element sends.
-ghost use Rattle.std.specs.Prelude.{◌≡◌, ◌<◌, ◌+◌, ◌*◌, ◌^◌, ◌/◌, ◌%◌, [], ◌∷◌, ◌++◌, Some, None, IfOk, OnOk, OnErr};
+ghost use Rattle.std.specs.Prelude.{false, ◌≡◌, ◌<◌, ◌+◌, ◌*◌, ◌^◌, ◌/◌, ◌%◌, [], ◌∷◌, ◌++◌, Some, None, IfOk, OnOk, OnErr};
 ghost use Rattle.std.specs.Option.{option_copied};
 ghost use Rattle.fc_wire.specs.Bytes.{u32_bytes};
 ghost use Rattle.fc_protocol.specs.Messages.{correlator};
@@ -219,6 +219,22 @@ fn claim_selects(life: &Life) -> Result<List<Select>, Memory>
     let mut bytes = Vec::new(life.alloc);
     put_number(&mut bytes, life.epoch.get())?;
     set_selects(life.alloc, EPOCH, Octets::from_vec(bytes))
+}
+
+/// The message of a life to an element that does this plain change, outside of any transaction: its correlator is the epoch in the high
+/// 32 bits and this count in the low ones, and an answer is always wanted. Refused only for want of memory.
+pub fn plain_request(
+    life: &Life,
+    element: FeId,
+    count: u32,
+    change: &Change,
+) -> Result<Message, Memory>
+    ensures { IfOk result (λ m. m ≡ spec.config life.now.ce element (correlator (record { life = life.now.epoch; count = count })) (spec.flags spec.all_or_none false spec.start) change.now) }
+{
+    let mut selects = List::new(life.alloc);
+    push_selects(&mut selects, change.selects())?;
+    let flags = flags(ALL_OR_NONE, false, START);
+    Ok(config(life, element, count, flags, selects))
 }
 
 /// The message of a life to an element that asks for this (RFC 5810, sections 7.6.1, 7.7.1 and 4.3.1.2.2): its correlator is the epoch
