@@ -23,5 +23,5 @@ pub use job::{Job, Scoped};
 pub use needs::LAST;
 pub use replies::{Next, after_reply, place_of};
 pub use seat::{Seat, Waits};
-pub use sending::{CeOut, send_due};
-pub use table::among;
+pub use sending::{CeOut, after_sending, send_due};
+pub use table::{among, place};

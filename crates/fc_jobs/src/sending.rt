@@ -45,8 +45,8 @@ fn next_count(seat: &Seat, asks: &Asks) -> u32
     }
 }
 
-// The seat of an element that is sent this, with this count.
-fn after_sending(seat: &Seat, count: u32, asks: Asks) -> Seat
+/// The seat of an element that is sent this, with this count.
+pub fn after_sending(seat: &Seat, count: u32, asks: Asks) -> Seat
     ensures element { result.element ≡ seat.now.element }
     ensures peer { (e : ℕ) → peer_of e result ≡ sending_it (peer_of e seat.now) (record { stamp = record { life = e; count = count }; body = body_of e asks }) }
 {

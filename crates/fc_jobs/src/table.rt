@@ -5,7 +5,7 @@ ghost use Rattle.fc_asks.specs.Tables.{found, placed};
 
 use fc_base::{FeId, List, Memory};
 
-// Whether the element is in the list.
+/// Whether the element is in the list.
 pub fn among(element: FeId, elements: &[FeId]) -> bool
     ensures { result ≡ stands element elements.now }
 {
@@ -29,7 +29,7 @@ pub fn look<V: Copy>(element: FeId, entries: &[(FeId, V)]) -> Option<V>
     None
 }
 
-// Keeps this of the element from now on. After an `Err` nothing has changed.
+/// Keeps this of the element from now on. After an `Err` nothing has changed.
 pub fn place<V: Drop>(entries: &mut List<(FeId, V)>, element: FeId, value: V) -> Result<(), Memory>
     ensures ok { OnOk result (entries.new ≡ placed element value entries.old) }
     ensures err { OnErr result (entries.new ≡ entries.old) }
