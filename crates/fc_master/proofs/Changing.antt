@@ -1,24 +1,23 @@
 -- What an input makes of a master, before what is due is sent.
-use Rattle.std.proofs.Common.{◌≡◌, ℕ, ◌<◌, ◌++◌, true, cond, List, [], ◌∷◌, map, length, get_or, Option, sym, ap, ◌∙◌}
+use Rattle.std.proofs.Common.{◌≡◌, ℕ, ◌<◌, true, cond, List, [], ◌∷◌, map, length, get_or, Option, sym, ap, ◌∙◌}
 use Rattle.std.proofs.Math.ListN.{set}
 use Rattle.fc_base.specs.Ids.{Txn}
 use Rattle.fc_protocol.specs.Collections.{among, put}
 use Rattle.fc_protocol.specs.Jobs.{Job as Work, decided_job, given_up}
 use Rattle.fc_protocol.specs.Messages.{Setup}
 use Rattle.fc_protocol.specs.MasterMachine.{Master as Core, Peer, again, at_put, decide_all, finish, gives_up, heard, sends_all}
-use Rattle.fc_asks.specs.declared.life.Life.{Life}
 use Rattle.fc_jobs.specs.declared.answers.Heard.{Heard}
 use Rattle.fc_jobs.specs.declared.job.Job.{Job}
 use Rattle.fc_jobs.specs.declared.seat.Seat.{Seat}
 use Rattle.fc_jobs.specs.declared.sending.CeOut.{CeOut}
 use Rattle.fc_jobs.specs.JobViews.{jobs_of}
 use Rattle.fc_jobs.specs.Seats.{elements_of, peer_at, peer_of}
-use Rattle.fc_jobs.specs.Sending.{are_apart, core_by, spelled}
+use Rattle.fc_jobs.specs.Sending.{core_by, spelled}
 use Rattle.fc_jobs.proofs.Asking.{changed}
 use Rattle.fc_jobs.proofs.Finishing.{finished}
 use Rattle.fc_jobs.proofs.Seating.{elements_set, peer_found}
 use Rattle.fc_master.specs.Masters.{begun_of, core_of}
-use Rattle.fc_master.specs.Steps.{granted, greeting}
+use Rattle.fc_master.specs.Steps.{setup_response, greeting}
 use Rattle.fc_master.specs.declared.master.Master.{Master}
 
 -- each job decided where it can be
@@ -62,8 +61,8 @@ module _ (m : Master) (i : ℕ) (s n : Seat) (p : ℕ) (l : i < length m.seats) 
       ∙ ap (λ (o : Option ℕ). decide_all (record { epoch = m.life.epoch; elements = elements_of m.seats; at = put (peer_at m.life.epoch m.wanted m.seats) p (record (peer_at m.life.epoch m.wanted m.seats p) { met = true }); jobs = jobs_of m.jobs; begun = m.begun; deposed = o })) x
       ∙ sym (ap (λ b. decide_all (cond b (at_put (core_of m) p (record ((core_of m).at p) { met = true })) (core_of m))) t)
 
-  pub greeting_is : (corr : ℕ) (first : List CeOut) → first ≡ granted m.life s.element corr 0 ∷ spelled m.life (again 0 s.element (peer_of m.life.epoch s).waits) → first ≡ greeting m.life (core_of m) p corr
+  pub greeting_is : (corr : ℕ) (first : List CeOut) → first ≡ setup_response m.life s.element corr 0 ∷ spelled m.life (again 0 s.element (peer_of m.life.epoch s).waits) → first ≡ greeting m.life (core_of m) p corr
   greeting_is corr first f =
-      f ∙ ap (λ r. granted m.life r corr 0 ∷ spelled m.life (again 0 r (peer_of m.life.epoch s).waits)) q
-      ∙ ap (λ (y : Peer). granted m.life p corr 0 ∷ spelled m.life (again 0 p y.waits)) (sym here)
-      ∙ sym (ap (λ b. cond b (granted m.life p corr 0 ∷ spelled m.life (again 0 p ((core_of m).at p).waits)) (granted m.life p corr 1 ∷ [])) t)
+      f ∙ ap (λ r. setup_response m.life r corr 0 ∷ spelled m.life (again 0 r (peer_of m.life.epoch s).waits)) q
+      ∙ ap (λ (y : Peer). setup_response m.life p corr 0 ∷ spelled m.life (again 0 p y.waits)) (sym here)
+      ∙ sym (ap (λ b. cond b (setup_response m.life p corr 0 ∷ spelled m.life (again 0 p ((core_of m).at p).waits)) (setup_response m.life p corr 1 ∷ [])) t)

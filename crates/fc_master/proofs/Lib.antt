@@ -1,2 +1,5 @@
 pub mod Unknown
 pub mod Changing
+pub mod Refusing
+pub mod Forgetful
+pub mod Entering

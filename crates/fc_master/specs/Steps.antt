@@ -1,6 +1,5 @@
 -- What a master does with what comes, as the protocol's master does it (RFC 5810, sections 7.2, 7.5 to 7.7 and 7.10, in this profile).
 use Rattle.std.specs.Prelude.{ℕ, ◌==◌, false, List, [], ◌∷◌, ◌++◌, if◌then◌else◌}
-use Rattle.fc_path.specs.declared.oper.Select.{Select}
 use Rattle.fc_msg.specs.declared.message.Message.{Message}
 use Rattle.fc_msg.specs.declared.message.MsgBody.{MsgBody}
 use Rattle.fc_msg.specs.declared.message.MsgBody.TheVariants as body
@@ -21,12 +20,12 @@ abbrev pub quiet : FlagValues
 quiet = record { ack = 0; pri = 0; em = 0; at = false; tp = 0 }
 
 -- an association is granted to an element of the master, with the result 0, and to nobody else
-abbrev pub granted : Life → ℕ → ℕ → ℕ → CeOut
-granted life p corr result = out p (record { source = life.ce; dest = p; corr = corr; flags = quiet; body = body.SetupResponse result })
+abbrev pub setup_response : Life → ℕ → ℕ → ℕ → CeOut
+setup_response life p corr result = out p (record { source = life.ce; dest = p; corr = corr; flags = quiet; body = body.SetupResponse result })
 
 -- a heartbeat that asks for an answer is answered, with the IDs exchanged
-abbrev pub beaten : ℕ → Message → List CeOut
-beaten p msg = if msg.flags.ack == 3 then out p (record { source = msg.dest; dest = msg.source; corr = msg.corr; flags = quiet; body = body.Heartbeat }) ∷ [] else []
+abbrev pub heartbeat_answer : ℕ → Message → List CeOut
+heartbeat_answer p msg = if msg.flags.ack == 3 then out p (record { source = msg.dest; dest = msg.source; corr = msg.corr; flags = quiet; body = body.Heartbeat }) ∷ [] else []
 
 -- the master after a message of p, before it decides and sends
 abbrev pub heard_of : Core → ℕ → ℕ → MsgBody → Core
@@ -42,7 +41,7 @@ heard_of m p corr body.Heartbeat = m
 
 -- the response to a wish for an association, and then what waits there again
 abbrev pub greeting : Life → Core → ℕ → ℕ → List CeOut
-greeting life m p corr = if among p m.elements then granted life p corr 0 ∷ spelled life (again 0 p (m.at p).waits) else granted life p corr 1 ∷ []
+greeting life m p corr = if among p m.elements then setup_response life p corr 0 ∷ spelled life (again 0 p (m.at p).waits) else setup_response life p corr 1 ∷ []
 
 -- what is said to it at once: the response to a wish for an association, and then what waits there again; the answer to a heartbeat
 abbrev pub at_once_to : Life → Core → ℕ → Message → MsgBody → List CeOut
@@ -54,7 +53,7 @@ at_once_to life m p msg (body.ConfigResponse selects) = []
 at_once_to life m p msg (body.Query selects) = []
 at_once_to life m p msg (body.QueryResponse selects) = []
 at_once_to life m p msg (body.Event selects) = []
-at_once_to life m p msg body.Heartbeat = beaten p msg
+at_once_to life m p msg body.Heartbeat = heartbeat_answer p msg
 
 -- the master of the controller k after an input, and what it says as the protocol's master
 abbrev pub stepped : ℕ → Core → CeIn → Speaks

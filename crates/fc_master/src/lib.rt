@@ -2,18 +2,26 @@
 //! transactions to their end at all of them, and recovers those that it finds.
 #![tactic(auto)]
 
+mod beginning;
+mod busy;
 mod calls;
 mod faults;
 mod finishing;
+mod forgetting;
 mod input;
 mod master;
 mod opening;
+mod plain;
 mod refusals;
+mod reporting;
 mod resending;
+mod seats;
+mod spending;
 mod stepping;
 
-pub use faults::GiveUpFault;
-pub use fc_asks::{Change, Life, Part, TxnPlan};
+pub use faults::{BeginFault, ForgetFault, GiveUpFault};
+pub use fc_asks::{Change, ChangeFault, Life, Part, PlanFault, TxnPlan};
 pub use fc_jobs::{Answer, CeOut, Decision, Job, Seen, decide};
 pub use input::CeIn;
 pub use master::Master;
+pub use refusals::MOST_PARTICIPANTS;

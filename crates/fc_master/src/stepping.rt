@@ -36,9 +36,9 @@ fn quiet() -> Flags
     }
 }
 
-// An association is granted, with the outcome 0, or not.
-fn granted(life: &Life, element: FeId, corr: u64, outcome: u32) -> CeOut
-    ensures { result ≡ spec.granted life.now element corr outcome }
+// The response to a wish for an association: it is granted, with the outcome 0, or not.
+fn setup_response(life: &Life, element: FeId, corr: u64, outcome: u32) -> CeOut
+    ensures { result ≡ spec.setup_response life.now element corr outcome }
 {
     CeOut {
         to: element,
@@ -53,8 +53,8 @@ fn granted(life: &Life, element: FeId, corr: u64, outcome: u32) -> CeOut
 }
 
 // A heartbeat that asks for an answer is answered.
-fn beaten(life: &Life, element: FeId, message: &Message) -> Result<List<CeOut>, Memory>
-    ensures { IfOk result (λ outs. outs ≡ spec.beaten element message.now) }
+fn heartbeat_answer(life: &Life, element: FeId, message: &Message) -> Result<List<CeOut>, Memory>
+    ensures { IfOk result (λ outs. outs ≡ spec.heartbeat_answer element message.now) }
 {
     let mut outs = List::new(life.alloc);
     if message.flags.ack == 3 {
@@ -73,11 +73,11 @@ fn beaten(life: &Life, element: FeId, message: &Message) -> Result<List<CeOut>, 
 }
 
 // The response to a wish for an association, and then what waits at the element again.
-fn welcome(life: &Life, seat: &Seat, corr: u64) -> Result<List<CeOut>, Memory>
-    ensures { IfOk result (λ outs. (k : ℕ) → outs ≡ spec.granted life.now seat.now.element corr 0 ∷ spelled life.now (again k seat.now.element (peer_of life.now.epoch seat.now).waits)) }
+fn setup_answer(life: &Life, seat: &Seat, corr: u64) -> Result<List<CeOut>, Memory>
+    ensures { IfOk result (λ outs. (k : ℕ) → outs ≡ spec.setup_response life.now seat.now.element corr 0 ∷ spelled life.now (again k seat.now.element (peer_of life.now.epoch seat.now).waits)) }
 {
     let mut outs = List::new(life.alloc);
-    outs.push(granted(life, seat.element, corr, 0))?;
+    outs.push(setup_response(life, seat.element, corr, 0))?;
     joined(outs, waiting_again(life, seat)?)
 }
 
@@ -98,7 +98,7 @@ impl Master {
     }
 
     // Nothing came but time, or what a master does not listen to; these messages are sent first.
-    fn wait(&mut self, first: List<CeOut>) -> Result<List<CeOut>, Memory>
+    fn finish_unchanged(&mut self, first: List<CeOut>) -> Result<List<CeOut>, Memory>
         ensures core { OnOk result ((k : ℕ) → core_of self.new ≡ (finish k (core_of self.old)).master) }
         ensures outs { IfOk result (λ outs. (k : ℕ) → outs ≡ first ++ spelled self.old.life (finish k (core_of self.old)).says) }
         ensures life { self.new.life ≡ self.old.life }
@@ -110,7 +110,7 @@ impl Master {
     }
 
     // An element wishes to be associated.
-    fn greeted(&mut self, element: FeId, corr: u64) -> Result<List<CeOut>, Memory>
+    fn hear_setup(&mut self, element: FeId, corr: u64) -> Result<List<CeOut>, Memory>
         ensures core { OnOk result ((k : ℕ) → core_of self.new ≡ (finish k (heard (core_of self.old) element Setup)).master) }
         ensures outs { IfOk result (λ outs. (k : ℕ) → outs ≡ spec.greeting self.old.life (core_of self.old) element corr ++ spelled self.old.life (finish k (heard (core_of self.old) element Setup)).says) }
         ensures life { self.new.life ≡ self.old.life }
@@ -121,12 +121,12 @@ impl Master {
         match place_of(element, self.seats.as_slice()) {
             None => {
                 let mut first = List::new(self.life.alloc);
-                first.push(granted(&self.life, element, corr, 1))?;
+                first.push(setup_response(&self.life, element, corr, 1))?;
                 self.finish(heard, first)
             }
             Some(at) => {
                 let seat = &self.seats.as_slice()[at];
-                let first = welcome(&self.life, seat, corr)?;
+                let first = setup_answer(&self.life, seat, corr)?;
                 heard.seats.set(at, seat.after_setup()?);
                 self.finish(heard, first)
             }
@@ -134,7 +134,7 @@ impl Master {
     }
 
     // A response to a Config came from an element.
-    fn replied(
+    fn hear_config_response(
         &mut self,
         element: FeId,
         corr: u64,
@@ -158,7 +158,7 @@ impl Master {
     }
 
     // An answer to a Query came from an element.
-    fn queried(
+    fn hear_query_response(
         &mut self,
         element: FeId,
         corr: u64,
@@ -194,24 +194,24 @@ impl Master {
     {
         let none = List::new(self.life.alloc);
         match input {
-            CeIn::Moment(_) => self.wait(none),
+            CeIn::Moment(_) => self.finish_unchanged(none),
             CeIn::Arrived(element, message) => match &message.body {
-                MsgBody::Setup(_) => self.greeted(element, message.corr),
+                MsgBody::Setup(_) => self.hear_setup(element, message.corr),
                 MsgBody::ConfigResponse(selects) => {
-                    self.replied(element, message.corr, selects.as_slice())
+                    self.hear_config_response(element, message.corr, selects.as_slice())
                 }
                 MsgBody::QueryResponse(selects) => {
-                    self.queried(element, message.corr, selects.as_slice())
+                    self.hear_query_response(element, message.corr, selects.as_slice())
                 }
                 MsgBody::Heartbeat => {
-                    let first = beaten(&self.life, element, &message)?;
-                    self.wait(first)
+                    let first = heartbeat_answer(&self.life, element, &message)?;
+                    self.finish_unchanged(first)
                 }
-                MsgBody::SetupResponse(_) => self.wait(none),
-                MsgBody::Teardown(_) => self.wait(none),
-                MsgBody::Config(_) => self.wait(none),
-                MsgBody::Query(_) => self.wait(none),
-                MsgBody::Event(_) => self.wait(none),
+                MsgBody::SetupResponse(_) => self.finish_unchanged(none),
+                MsgBody::Teardown(_) => self.finish_unchanged(none),
+                MsgBody::Config(_) => self.finish_unchanged(none),
+                MsgBody::Query(_) => self.finish_unchanged(none),
+                MsgBody::Event(_) => self.finish_unchanged(none),
             },
         }
     }

@@ -1,4 +1,4 @@
-use Rattle.std.proofs.Common.{◌≡◌, ◌++◌, ℕ, List, sym, ap, ◌∙◌}
+use Rattle.std.proofs.Common.{◌++◌, List, sym, ap, ◌∙◌}
 use Rattle.fc_protocol.specs.MasterMachine.{Speaks}
 use Rattle.fc_jobs.specs.declared.job.Job.{Job}
 use Rattle.fc_jobs.specs.declared.sending.CeOut.{CeOut}

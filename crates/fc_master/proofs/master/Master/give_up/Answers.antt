@@ -1,4 +1,4 @@
-use Rattle.std.proofs.Common.{◌≡◌, ◌++◌, ℕ, List, map, ap, ◌∙◌}
+use Rattle.std.proofs.Common.{◌++◌, List, map, ap, ◌∙◌}
 use Rattle.fc_protocol.specs.Jobs.{given_up}
 use Rattle.fc_protocol.specs.MasterMachine.{finish, gives_up}
 use Rattle.fc_jobs.specs.declared.job.Job.{Job}

@@ -1,4 +1,4 @@
-use Rattle.std.proofs.Common.{◌≡◌, List, [], map, None, ap, ◌∙◌}
+use Rattle.std.proofs.Common.{List, [], None, ap, ◌∙◌}
 use Rattle.fc_jobs.specs.declared.job.Job.{Job}
 use Rattle.fc_jobs.specs.declared.seat.Seat.{Seat}
 use Rattle.fc_jobs.specs.Seats.{elements_of}

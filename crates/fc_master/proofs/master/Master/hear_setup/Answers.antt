@@ -10,7 +10,7 @@ use Rattle.fc_jobs.proofs.Dues.{if_ok_on}
 use Rattle.fc_jobs.proofs.Laws.{on_ok_by}
 use Rattle.fc_master.specs.Masters.{begun_of, core_of}
 use Rattle.fc_master.proofs.Changing.{elements_after, greeting_is, setup_is}
-use Rattle.fc_master.proofs.master.Master.greeted.Goals as goal
+use Rattle.fc_master.proofs.master.Master.hear_setup.Goals as goal
 
 pub finish-requires-in-Some : goal.finish-requires-in-Some
 finish-requires-in-Some c =

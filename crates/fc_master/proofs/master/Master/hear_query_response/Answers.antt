@@ -7,7 +7,7 @@ use Rattle.fc_jobs.specs.Sending.{core_by, spelled}
 use Rattle.fc_jobs.proofs.Dues.{if_ok_on}
 use Rattle.fc_jobs.proofs.Laws.{on_ok_by}
 use Rattle.fc_master.specs.Masters.{begun_of, core_of}
-use Rattle.fc_master.proofs.master.Master.queried.Goals as goal
+use Rattle.fc_master.proofs.master.Master.hear_query_response.Goals as goal
 
 pub returns-clause-core : goal.returns-clause-core
 returns-clause-core c =

@@ -6,7 +6,7 @@ use Rattle.fc_jobs.proofs.Dues.{if_ok_on}
 use Rattle.fc_jobs.proofs.Laws.{on_ok_by}
 use Rattle.fc_master.specs.Masters.{begun_of, core_of}
 use Rattle.fc_master.proofs.Changing.{as_it_is}
-use Rattle.fc_master.proofs.master.Master.wait.Goals as goal
+use Rattle.fc_master.proofs.master.Master.finish_unchanged.Goals as goal
 
 pub returns-clause-core : goal.returns-clause-core
 returns-clause-core c =
