@@ -65,72 +65,72 @@ fn a_full_array_is_read_and_written_in_its_order(rt: HostRuntime) -> Result<(), 
     Ok(())
 }
 
+// The code where an entry more is read, put or merged.
+fn read_code(alloc: Global) -> Result<Option<Code>, Memory> {
+    let mut bytes = falling(alloc)?;
+    push_entry(&mut bytes, MANY)?;
+    let ty = table(alloc)?;
+    Ok(code(&read_full(alloc, &ty, &bytes)))
+}
+
+fn put_code(alloc: Global) -> Result<Option<Code>, OpFault> {
+    let value = full(alloc)?;
+    let ty = table(alloc)?;
+    let put = put_value(alloc, &ty, value, &[Step::Id(MANY)], &[1; 8]);
+    Ok(code(&put))
+}
+
+fn merge_code(alloc: Global) -> Result<Option<Code>, OpFault> {
+    let value = full(alloc)?;
+    let ty = table(alloc)?;
+    let change = ilv(alloc, MANY, &[1; 8])?;
+    let merged = merge_value(alloc, &ty, value, &[], &[change]);
+    Ok(code(&merged))
+}
+
 #[test]
 fn a_full_array_takes_no_entry_more(rt: HostRuntime) -> Result<(), Fail> {
     let alloc = rt.alloc();
-    let mut bytes = falling(alloc)?;
-    push_entry(&mut bytes, MANY)?;
-    let read = read_full(alloc, &table(alloc)?, &bytes);
-    assert_eq!(rt; code(&read), Some(Code::VALUE_OUT_OF_RANGE));
-    let put = put_value(
-        alloc,
-        &table(alloc)?,
-        full(alloc)?,
-        &[Step::Id(MANY)],
-        &[1; 8],
-    );
-    assert_eq!(rt; code(&put), Some(Code::INVALID_ARRAY_CREATION));
-    let change = ilv(alloc, MANY, &[1; 8])?;
-    let merged = merge_value(alloc, &table(alloc)?, full(alloc)?, &[], &[change]);
-    assert_eq!(rt; code(&merged), Some(Code::INVALID_ARRAY_CREATION));
+    assert_eq!(rt; read_code(alloc)?, Some(Code::VALUE_OUT_OF_RANGE));
+    assert_eq!(rt; put_code(alloc)?, Some(Code::INVALID_ARRAY_CREATION));
+    assert_eq!(rt; merge_code(alloc)?, Some(Code::INVALID_ARRAY_CREATION));
     Ok(())
 }
 
-// The second number of the entry with a key.
-fn second(alloc: Global, value: &Value, key: &[u8]) -> Result<Vec<u8>, OpFault> {
+// The second number of the entry with the key of a subscript.
+fn second(alloc: Global, value: &Value, subscript: u32) -> Result<Vec<u8>, OpFault> {
     let ty = table(alloc)?;
-    let step = Step::Key(1, Octets::from_slice(alloc, key)?);
+    let step = Step::Key(1, Octets::from_slice(alloc, &key(subscript))?);
     let (part, found) = walk(alloc, &ty, value, &[step, Step::Id(2)])?;
     let mut bytes = Vec::new(alloc);
     write_full(part, found, &mut bytes)?;
     Ok(bytes)
 }
 
+// Whether it is this number.
+fn holds(alloc: Global, value: &Value, subscript: u32, number: u32) -> Result<bool, OpFault> {
+    let bytes = second(alloc, value, subscript)?;
+    Ok(bytes.as_slice() == number.to_be_bytes().as_slice())
+}
+
 // The full array after one entry was put in place of another, one was merged and one removed.
 fn changed(alloc: Global) -> Result<Value, OpFault> {
     let ty = table(alloc)?;
-    let value = full(alloc)?;
-    let put = put_value(
-        alloc,
-        &ty,
-        value,
-        &[Step::Id(9), Step::Id(2)],
-        &[0, 0, 0, 8],
-    )?;
+    let path = [Step::Id(9), Step::Id(2)];
+    let value = put_value(alloc, &ty, full(alloc)?, &path, &[0, 0, 0, 8])?;
     let change = ilv(alloc, 2, &[0, 0, 0, 9])?;
-    let merged = merge_value(alloc, &ty, put, &[Step::Id(MANY - 1)], &[change])?;
-    remove_value(alloc, &ty, merged, &[Step::Id(5)])
+    let value = merge_value(alloc, &ty, value, &[Step::Id(MANY - 1)], &[change])?;
+    remove_value(alloc, &ty, value, &[Step::Id(5)])
 }
 
 #[test]
 fn a_full_array_is_changed(rt: HostRuntime) -> Result<(), Fail> {
     let alloc = rt.alloc();
     let value = changed(alloc)?;
-    assert_eq!(rt;
-        second(alloc, &value, &key(4))?.as_slice(),
-        [0, 0, 0, 7].as_slice()
-    );
-    assert_eq!(rt;
-        second(alloc, &value, &key(9))?.as_slice(),
-        [0, 0, 0, 8].as_slice()
-    );
-    assert_eq!(rt;
-        second(alloc, &value, &key(MANY - 1))?.as_slice(),
-        [0, 0, 0, 9].as_slice()
-    );
-    assert_eq!(rt;
-        code(&second(alloc, &value, &key(5))),
-        Some(Code::NOT_FOUND)
-    );
+    for (subscript, number) in [(4, 7), (9, 8), (MANY - 1, 9)] {
+        assert!(rt; holds(alloc, &value, subscript, number)?, "{subscript}");
+    }
+    let removed = second(alloc, &value, 5);
+    assert_eq!(rt; code(&removed), Some(Code::NOT_FOUND));
     Ok(())
 }

@@ -1,9 +1,7 @@
 // Spots lead to the components of the largest library, or to the first cause against that.
 ghost use Rattle.std.specs.Prelude.{◌<◌};
 
-use crate::types::code;
-use Purpose::{Look, Read, Write};
-use fc_base::{Code, List, Memory, Octets, OpFault, Text};
+use fc_base::{List, Memory, Octets, OpFault, Text};
 use fc_path::{Spot, Step};
 use fc_store::{Purpose, resolve};
 use fc_types::{CheckFault, Class, Component, Instances, Library, Ty};
@@ -68,59 +66,86 @@ fn library(alloc: Global) -> Result<(Library, Instances), CheckFault> {
     Library::check(classes, pairs)
 }
 
-fn spot(alloc: Global, class: u32, instance: u32, ids: &[u32]) -> Result<Spot, Memory> {
-    let mut steps = List::new(alloc);
-    for id in ids {
-        steps.push(Step::Id(*id))?;
+// The spot of numbers: a class, an instance and IDs.
+fn spot(alloc: Global, numbers: &[u32]) -> Result<Spot, Memory> {
+    let mut spot = Spot {
+        class: 0,
+        instance: 0,
+        steps: List::new(alloc),
+    };
+    if let [class, instance, ids @ ..] = numbers {
+        spot.class = *class;
+        spot.instance = *instance;
+        for id in ids {
+            spot.steps.push(Step::Id(*id))?;
+        }
     }
-    Ok(Spot {
-        class,
-        instance,
-        steps,
-    })
+    Ok(spot)
 }
 
-#[test]
-fn the_first_cause_refuses_a_spot(rt: HostRuntime) -> Result<(), Fail> {
-    let alloc = rt.alloc();
-    let (library, instances) = library(alloc)?;
-    let rows: [(Purpose, u32, u32, &[u32], Code); 8] = [
-        (Write, 101, 5_000, &[], Code::LFB_UNKNOWN),
-        (Write, CLASS, 5_000, &[], Code::LFB_INSTANCE_ID_NOT_FOUND),
-        (Write, CLASS, 1, &[], Code::INVALID_PATH),
-        (Write, CLASS, 1, &[60_000], Code::EVENT_ERROR),
-        (Write, CLASS, 1, &[1_001], Code::COMPONENT_DOES_NOT_EXIST),
-        (Write, CLASS, 1, &[1], Code::READ_ONLY),
-        (Read, CLASS, 1, &[2], Code::NOT_SUPPORTED),
-        (Look, CLASS, 0, &[1], Code::LFB_INSTANCE_ID_NOT_FOUND),
-    ];
-    for (purpose, class, instance, ids, wanted) in rows {
-        let spot = spot(alloc, class, instance, ids)?;
-        let found = resolve(purpose, &library, &instances, &spot);
-        assert_eq!(rt; code(&found), Some(wanted), "{class} {instance}");
+// The spot of words.
+fn spot_of(alloc: Global, words: &str) -> Result<Spot, Fail> {
+    let mut numbers = Vec::new(alloc);
+    for word in words.split(" ") {
+        numbers.push(word.parse::<u32>()?)?;
     }
-    let mut keyed = spot(alloc, CLASS, 1, &[])?;
-    keyed.steps.push(Step::Key(1, Octets::new(alloc)))?;
-    let found = resolve(Look, &library, &instances, &keyed);
-    assert_eq!(rt; code(&found), Some(Code::INVALID_PATH));
-    Ok(())
+    Ok(spot(alloc, &numbers)?)
 }
+
+fn purpose_of(word: &str) -> Purpose {
+    match word {
+        "read" => Purpose::Read,
+        "write" => Purpose::Write,
+        _ => Purpose::Look,
+    }
+}
+
+// The places of an instance and of a component, or the code.
+fn told(alloc: Global, found: &Result<(usize, usize), OpFault>) -> Result<String, Fail> {
+    match found {
+        Ok((instance, component)) => Ok(format!(in alloc; "{instance} {component}")?),
+        Err(OpFault::Refused(code)) => Ok(format!(in alloc; "code {}", code.0)?),
+        Err(OpFault::Memory) => Err(Fail::from("memory")),
+    }
+}
+
+// What is meant, the class, the instance and the steps of a spot, and the places to which it leads, or the code of the first cause against it.
+const ROWS: &str = "\
+write 101 5000 = code 5
+write 100 5000 = code 7
+write 100 1 = code 8
+write 100 1 60000 = code 20
+write 100 1 1001 = code 9
+write 100 1 1 = code 12
+read 100 1 2 = code 21
+look 100 0 1 = code 7
+look 100 1 2 7 = 0 1
+read 100 1 1 7 = 0 0
+write 100 2 2 7 = 1 1
+read 100 4096 1000 7 = 4095 999
+write 100 4096 1000 7 = 4095 999";
 
 #[test]
 fn a_spot_leads_to_the_places_of_its_component(rt: HostRuntime) -> Result<(), Fail> {
     let alloc = rt.alloc();
     let (library, instances) = library(alloc)?;
-    let rows: [(Purpose, u32, u32, (usize, usize)); 5] = [
-        (Look, 1, 2, (0, 1)),
-        (Read, 1, 1, (0, 0)),
-        (Write, 2, 2, (1, 1)),
-        (Read, INSTANCES, COMPONENTS, (4_095, 999)),
-        (Write, INSTANCES, COMPONENTS, (4_095, 999)),
-    ];
-    for (purpose, instance, id, places) in rows {
-        let spot = spot(alloc, CLASS, instance, &[id, 7])?;
-        let found: Result<(usize, usize), OpFault> = resolve(purpose, &library, &instances, &spot);
-        assert!(rt; found == Ok(places), "{instance} {id}");
+    for row in ROWS.lines() {
+        let (asked, wanted) = row.split_once(" = ").ok_or("a row")?;
+        let (purpose, words) = asked.split_once(" ").ok_or("a spot")?;
+        let spot = spot_of(alloc, words)?;
+        let found = resolve(purpose_of(purpose), &library, &instances, &spot);
+        assert_eq!(rt; told(alloc, &found)?.as_str(), wanted, "{row}");
     }
+    Ok(())
+}
+
+#[test]
+fn a_key_leads_to_no_component(rt: HostRuntime) -> Result<(), Fail> {
+    let alloc = rt.alloc();
+    let (library, instances) = library(alloc)?;
+    let mut keyed = spot(alloc, &[CLASS, 1])?;
+    keyed.steps.push(Step::Key(1, Octets::new(alloc)))?;
+    let found = resolve(Purpose::Look, &library, &instances, &keyed);
+    assert_eq!(rt; told(alloc, &found)?.as_str(), "code 8");
     Ok(())
 }
