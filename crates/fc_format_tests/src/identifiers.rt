@@ -21,15 +21,29 @@ fn identifiers_have_their_ranges(rt: HostRuntime) -> Result<(), Fail> {
         assert_eq!(rt; FeId::of(n).is_some(), is_element, "{n}");
         assert_eq!(rt; CeId::of(n).is_some(), is_controller, "{n}");
     }
+    Ok(())
+}
+
+#[test]
+fn epochs_are_of_a_round_and_a_controller(rt: HostRuntime) -> Result<(), Fail> {
     let ce = CeId::of(0x4000_0001).ok_or("a controller")?;
     assert_eq!(rt; ce.number(), 1);
-    assert_eq!(rt; Epoch::of(0, ce), None);
-    assert_eq!(rt; Epoch::of(16_777_216, ce), None);
-    let epoch = Epoch::of(1, ce).ok_or("an epoch")?;
-    assert_eq!(rt; epoch.get(), 257);
-    assert_eq!(rt; Epoch::from_word(257), Some(epoch));
-    assert_eq!(rt; Epoch::from_word(256), None);
-    assert_eq!(rt; Epoch::from_word(255), None);
+    for (round, epoch) in [(0, None), (1, Some(257)), (16_777_216, None)] {
+        assert_eq!(rt; Epoch::of(round, ce).map(|epoch| epoch.get()), epoch);
+    }
+    Ok(())
+}
+
+#[test]
+fn transactions_are_of_an_epoch_and_a_number(rt: HostRuntime) -> Result<(), Fail> {
+    for word in [255, 256] {
+        assert_eq!(rt; Epoch::from_word(word), None);
+    }
+    let epoch = Epoch::from_word(257).ok_or("an epoch")?;
+    assert_eq!(rt;
+        Some(epoch),
+        Epoch::of(1, CeId::of(0x4000_0001).ok_or("a controller")?)
+    );
     assert_eq!(rt; TxnId::of(epoch, 0), None);
     assert_eq!(rt; TxnId::of(epoch, 4).ok_or("a transaction")?.number, 4);
     Ok(())

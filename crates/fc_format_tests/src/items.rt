@@ -76,29 +76,45 @@ fn two_tlvs(bytes: &[u8], place: usize) -> [(u16, usize, usize, usize); 2] {
     found
 }
 
+// The fault of the first TLV of bytes, with nothing lent behind it.
+fn tlv_fault(bytes: &[u8; 4], place: usize) -> Option<WireFault> {
+    if place > 1000 {
+        return None;
+    }
+    let mut tlvs = Tlvs::over(bytes, place);
+    match (tlvs.next(), tlvs.next()) {
+        (Some(Err(fault)), None) => Some(fault),
+        _ => None,
+    }
+}
+
 #[test]
 fn faults_have_their_places(rt: HostRuntime) -> Result<(), Fail> {
-    let short: [u8; 4] = [0x10, 0, 0, 3];
-    let past: [u8; 4] = [0x10, 0, 0, 5];
-    for (bytes, want) in [
-        (short, WireFault::TlvShort { place: 24 }),
-        (past, WireFault::TlvPast { place: 24 }),
-    ] {
-        let mut tlvs = Tlvs::over(&bytes, 24);
-        match tlvs.next() {
-            Some(Err(fault)) => assert!(rt; fault == want),
-            _ => assert!(rt; false),
-        }
-        assert!(rt; tlvs.next().is_none());
-    }
-    let little: [u8; 4] = [0, 0, 0, 8];
-    let mut ilvs = Ilvs::over(&little, 60);
-    match ilvs.next() {
-        Some(Err(fault)) => assert!(rt; fault == WireFault::TlvShort { place: 60 }),
-        _ => assert!(rt; false),
-    }
-    assert!(rt; ilvs.next().is_none());
+    let short = tlv_fault(&[0x10, 0, 0, 3], 24);
+    assert!(rt; short == Some(WireFault::TlvShort { place: 24 }));
+    let past = tlv_fault(&[0x10, 0, 0, 5], 24);
+    assert!(rt; past == Some(WireFault::TlvPast { place: 24 }));
     Ok(())
+}
+
+// The identifiers, the places and the lengths of the first two ILVs of bytes, with zeros where there is none, and the fault of the third.
+fn two_ilvs(bytes: &[u8], place: usize) -> ([(u32, usize, usize); 2], Option<WireFault>) {
+    let mut found = [(0, 0, 0); 2];
+    if bytes.len() % 4 != 0 || place > 1000 {
+        return (found, None);
+    }
+    let mut ilvs = Ilvs::over(bytes, place);
+    for item in &mut found {
+        match ilvs.next() {
+            Some(Ok(ilv)) => *item = (ilv.ident, ilv.place, ilv.body.len()),
+            Some(Err(fault)) => return (found, Some(fault)),
+            None => return (found, None),
+        }
+    }
+    match ilvs.next() {
+        Some(Err(fault)) => (found, Some(fault)),
+        _ => (found, None),
+    }
 }
 
 #[test]
@@ -106,26 +122,18 @@ fn ilvs_stand_at_their_places(rt: HostRuntime) -> Result<(), Fail> {
     let bytes: [u8; 28] = [
         0, 0, 0, 5, 0, 0, 0, 9, 7, 0, 0, 0, 0, 0, 1, 2, 0, 0, 0, 8, 0, 0, 0, 1, 0, 0, 0, 9,
     ];
-    let mut ilvs = Ilvs::over(&bytes, 100);
-    for (ident, place, size) in [(5, 100, 1), (0x102, 112, 0)] {
-        match ilvs.next() {
-            Some(Ok(ilv)) => {
-                assert_eq!(rt;
-                    (ilv.ident, ilv.place, ilv.body.len()),
-                    (ident, place, size)
-                );
-            }
-            _ => assert!(rt; false),
-        }
-    }
-    match ilvs.next() {
-        Some(Err(fault)) => assert!(rt; fault == WireFault::TlvPast { place: 120 }),
-        _ => assert!(rt; false),
-    }
-    let ilv = Ilv {
-        ident: 5,
-        value: Octets::from_slice(rt.alloc(), &[7])?,
-    };
+    let (ilvs, fault) = two_ilvs(&bytes, 100);
+    assert_eq!(rt; ilvs, [(5, 100, 1), (0x102, 112, 0)]);
+    assert!(rt; fault == Some(WireFault::TlvPast { place: 120 }));
+    let (_, fault) = two_ilvs(&[0, 0, 0, 8], 60);
+    assert!(rt; fault == Some(WireFault::TlvShort { place: 60 }));
+    Ok(())
+}
+
+#[test]
+fn an_ilv_is_copied(rt: HostRuntime) -> Result<(), Fail> {
+    let value = Octets::from_slice(rt.alloc(), &[7])?;
+    let ilv = Ilv { ident: 5, value };
     assert!(rt; ilv.copy()? == ilv);
     Ok(())
 }
@@ -146,6 +154,13 @@ fn tlvs_are_written(rt: HostRuntime) -> Result<(), Fail> {
     writer.end(operation)?;
     writer.end(select)?;
     assert_eq!(rt; writer.as_slice(), ANSWER.as_slice());
+    Ok(())
+}
+
+#[test]
+fn a_writer_that_is_cleared_begins_anew(rt: HostRuntime) -> Result<(), Fail> {
+    let mut writer = TlvWriter::new(rt.alloc());
+    writer.put(&[0, 0, 0, 1])?;
     writer.clear();
     assert!(rt; writer.as_slice().is_empty());
     let commit = writer.begin(12)?;

@@ -187,22 +187,30 @@ fn too_long(alloc: Global) -> Result<Message, Memory> {
     Ok(message(MsgBody::Config(selects)))
 }
 
+// Whether an encoder appends a sample to bytes, and then nothing of a message that is too long.
+fn appends(
+    alloc: Global,
+    encoder: &mut Encoder,
+    out: &mut Vec<u8>,
+    at: usize,
+) -> Result<bool, Fail> {
+    let bytes = sample(alloc, at)?;
+    let message = decoded(alloc, &bytes)?;
+    let mut wanted = out.clone()?;
+    wanted.extend_from_slice(&bytes)?;
+    let done = encoder.encode(&message, out);
+    let is_appended = done == Ok(()) && *out == wanted;
+    let refused = encoder.encode(&too_long(alloc)?, out);
+    Ok(is_appended && refused == Err(WriteFault::TooLong) && *out == wanted)
+}
+
 #[test]
 fn an_encoder_forgets_what_it_encoded_before(rt: HostRuntime) -> Result<(), Fail> {
     let alloc = rt.alloc();
     let mut encoder = Encoder::new(alloc);
-    let mut wanted = Vec::new(alloc);
     let mut out = Vec::new(alloc);
-    let long = too_long(alloc)?;
     for at in [8usize, 2, 0, 5] {
-        let bytes = sample(alloc, at)?;
-        let message = decoded(alloc, bytes.as_slice())?;
-        wanted.extend_from_slice(bytes.as_slice())?;
-        assert_eq!(rt; encoder.encode(&message, &mut out), Ok(()));
-        assert_eq!(rt; out.as_slice(), wanted.as_slice(), "{at}");
-        let answer = encoder.encode(&long, &mut out);
-        assert_eq!(rt; answer, Err(WriteFault::TooLong));
-        assert_eq!(rt; out.as_slice(), wanted.as_slice(), "{at}");
+        assert!(rt; appends(alloc, &mut encoder, &mut out, at)?, "{at}");
     }
     Ok(())
 }

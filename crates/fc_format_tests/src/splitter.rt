@@ -1,5 +1,5 @@
 // A splitter over a stream of heartbeats.
-use fc_base::SureSource;
+use fc_base::{Memory, SureSource};
 use fc_msg::Splitter;
 use std::alloc::{AllocError, Global};
 use std::test::Fail;
@@ -16,22 +16,29 @@ fn beats(alloc: Global) -> Result<Vec<u8>, AllocError> {
     Ok(bytes)
 }
 
+// Feeds bytes. Tells whether a heartbeat is lent then, whether nothing is behind it, and how many bytes are left.
+fn fed(splitter: &mut Splitter, bytes: &[u8]) -> Result<(bool, bool, usize), Memory> {
+    splitter.feed(bytes)?;
+    let is_beat = splitter.next() == Some(BEAT.as_slice());
+    let is_last = splitter.next().is_none();
+    Ok((is_beat, is_last, splitter.rest().len()))
+}
+
 #[test]
 fn a_splitter_lends_the_frames_of_the_stream(rt: HostRuntime) -> Result<(), Fail> {
     let alloc = rt.alloc();
     let mut splitter = Splitter::new(alloc);
-    assert!(rt; splitter.next().is_none());
     let bytes = beats(alloc)?;
+    for (from, to, wanted) in [
+        (0, 0, (false, true, 0)),
+        (0, 23, (false, true, 23)),
+        (23, 47, (true, true, 23)),
+        (47, 48, (true, true, 0)),
+    ] {
+        let part = bytes.get(from..to).ok_or("bytes")?;
+        assert_eq!(rt; fed(&mut splitter, part)?, wanted);
+    }
     assert_eq!(rt; bytes.len(), 48);
-    splitter.feed(&bytes[..23])?;
-    assert!(rt; splitter.next().is_none());
-    assert_eq!(rt; splitter.rest().len(), 23);
-    splitter.feed(&bytes[23..47])?;
-    assert_eq!(rt; splitter.next().ok_or("a frame")?, BEAT.as_slice());
-    assert!(rt; splitter.next().is_none());
-    splitter.feed(&bytes[47..])?;
-    assert_eq!(rt; splitter.next().ok_or("a frame")?, BEAT.as_slice());
-    assert_eq!(rt; splitter.rest().len(), 0);
     Ok(())
 }
 

@@ -1,5 +1,5 @@
 // A class of ports with its instances, and the built-in classes beside it.
-ghost use Rattle.std.specs.Prelude.{◌≡◌, IfOk, map};
+ghost use Rattle.std.specs.Prelude.{◌≡◌, true, IfOk, map};
 ghost use Rattle.fc_types.specs.BuiltIn.{built_in_ids};
 ghost use Rattle.fc_types.specs.Classes.{class_keeps};
 ghost use Rattle.fc_types.specs.Libraries.{KeepRules, class_id};
