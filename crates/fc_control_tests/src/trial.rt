@@ -1,0 +1,216 @@
+// What the lines of a table do with a control element, and what it then sends or says.
+use crate::messages::{change, held, message, record, response};
+use crate::told::{kept, refused, sent, unforgotten};
+use crate::words::{bytes_of, cut, element, transaction};
+use fc_base::{CeId, Epoch, FeId, List, Memory};
+use fc_master::{BeginFault, CeIn, CeOut, Change, Master, TxnPlan};
+use fc_msg::MsgBody;
+use fc_path::OperKind;
+use std::alloc::Global;
+use std::test::Fail;
+
+// A control element over the elements 1, 2 and 3, and what it has sent: to whom, and with which correlator, the newest last.
+#[derive(Drop)]
+pub(crate) struct Trial {
+    alloc: Global,
+    master: Master,
+    sent: Vec<(FeId, u64)>,
+}
+
+// A change of an instance of Port.
+fn one_change(alloc: Global, instance: u32) -> Result<Change, Fail> {
+    Ok(
+        Change::of(change(alloc, instance, OperKind::Set, 4)?)
+            .ok()
+            .ok_or("a change")?,
+    )
+}
+
+// The parts of a plan: each participant, and the instance that its one change names, as `P:I`.
+fn parts(alloc: Global, words: &str) -> Result<List<(FeId, List<Change>)>, Fail> {
+    let mut parts = List::new(alloc);
+    for word in words.split(" ") {
+        let (participant, instance) = cut(word, ":");
+        let mut changes = List::new(alloc);
+        changes.push(one_change(alloc, instance.parse::<u32>()?)?)?;
+        parts.push((element(participant)?, changes))?;
+    }
+    Ok(parts)
+}
+
+impl Trial {
+    pub(crate) fn new(alloc: Global) -> Result<Trial, Fail> {
+        let ce = CeId::of(0x4000_0001).ok_or("a control element")?;
+        let epoch = Epoch::of(4, ce).ok_or("an epoch")?;
+        let first = FeId::of(1).ok_or("an element")?;
+        let second = FeId::of(2).ok_or("an element")?;
+        let third = FeId::of(3).ok_or("an element")?;
+        let master = Master::new(alloc, ce, &[first, second, third], epoch)?;
+        Ok(Trial {
+            alloc,
+            master,
+            sent: Vec::new(alloc),
+        })
+    }
+
+    // What is sent, in words; its correlators are kept.
+    fn told(&mut self, outs: List<CeOut>) -> Result<String, Fail> {
+        let mut text = String::new(self.alloc);
+        for out in outs.as_slice() {
+            self.sent.push((out.to, out.message.corr))?;
+            if !text.is_empty() {
+                text.push_str("; ")?;
+            }
+            text.push_str(sent(self.alloc, out)?.as_str())?;
+        }
+        if text.is_empty() {
+            text.push_str("nothing")?;
+        }
+        Ok(text)
+    }
+
+    // The correlator of the last message to an element.
+    fn last_to(&self, element: FeId) -> u64 {
+        let mut corr = 0;
+        for entry in self.sent.as_slice() {
+            if entry.0 == element {
+                corr = entry.1;
+            }
+        }
+        corr
+    }
+
+    fn hear(&mut self, word: &str, is_asking: bool, body: MsgBody) -> Result<String, Fail> {
+        let from = element(word)?;
+        let corr = self.last_to(from);
+        let outs = self
+            .master
+            .step(CeIn::Arrived(from, message(corr, is_asking, body)))?;
+        self.told(outs)
+    }
+
+    // What an element says.
+    fn heard(&mut self, said: &str, from: &str, rest: &str) -> Result<String, Fail> {
+        let alloc = self.alloc;
+        let (first, second) = cut(rest, " ");
+        match said {
+            "open" => self.hear(from, true, MsgBody::Setup(List::new(alloc))),
+            "beat" => self.hear(from, true, MsgBody::Heartbeat),
+            "still" => self.hear(from, false, MsgBody::Heartbeat),
+            "silent" => self.hear(from, false, response(alloc, None)?),
+            "code" => {
+                let code = bytes_of(alloc, first)?.first().copied().unwrap_or(0);
+                self.hear(from, false, response(alloc, Some(code))?)
+            }
+            "held" => self.hear(from, false, held(alloc, first, second)?),
+            _ => {
+                let (epoch, entry) = cut(second, " ");
+                let body = record(alloc, transaction(first)?, epoch, entry)?;
+                self.hear(from, false, body)
+            }
+        }
+    }
+
+    fn begun(&mut self, plan: TxnPlan) -> Result<String, Fail> {
+        match self.master.begin(plan) {
+            Ok((_, outs)) => self.told(outs),
+            Err(fault) => Ok(refused(self.alloc, fault)?),
+        }
+    }
+
+    // A plan of so many participants, from 1 on.
+    fn begin_many(&mut self, count: u32) -> Result<String, Fail> {
+        let alloc = self.alloc;
+        let mut parts = List::new(alloc);
+        for number in 0..count {
+            let mut changes = List::new(alloc);
+            changes.push(one_change(alloc, 1)?)?;
+            let participant = FeId::of(number % 1_000 + 1).ok_or("an element")?;
+            parts.push((participant, changes))?;
+        }
+        self.begun(TxnPlan::of(parts).ok().ok_or("a plan")?)
+    }
+
+    // Each element asks for an association, takes the claim and answers the ask.
+    fn ready(&mut self) -> Result<String, Fail> {
+        for participant in ["1", "2", "3"] {
+            self.heard("open", participant, "")?;
+            self.heard("code", participant, "00")?;
+            self.heard("held", participant, "00000401 -")?;
+        }
+        let outs = self.master.step(CeIn::Moment(0))?;
+        self.told(outs)
+    }
+
+    fn plain(&mut self, to: &str) -> Result<String, Fail> {
+        let change = one_change(self.alloc, 1)?;
+        match self.master.plain(element(to)?, change) {
+            Ok(outs) => self.told(outs),
+            Err(fault) => Ok(refused(self.alloc, fault)?),
+        }
+    }
+
+    fn give_up(&mut self, name: &str) -> Result<String, Fail> {
+        match self.master.give_up(transaction(name)?) {
+            Ok(outs) => self.told(outs),
+            Err(fault) => Ok(kept(self.alloc, fault)?),
+        }
+    }
+
+    fn forget(&mut self) -> Result<String, Fail> {
+        match self.master.forget() {
+            Ok(outs) => self.told(outs),
+            Err(fault) => Ok(unforgotten(self.alloc, fault)?),
+        }
+    }
+
+    // The report, with a stroke for each end of a line.
+    fn report(&self) -> Result<String, Fail> {
+        let mut lines = Vec::new(self.alloc);
+        self.master.report(&mut lines)?;
+        let text = String::from_utf8(lines).ok().ok_or("a text")?;
+        let mut told = String::new(self.alloc);
+        for line in text.split("\n") {
+            if !line.is_empty() {
+                told.push_str(line)?;
+                told.push_str("|")?;
+            }
+        }
+        Ok(told)
+    }
+
+    // What the control element sends or says after a line: what it is asked for, or what an element says.
+    pub(crate) fn answer(&mut self, line: &str) -> Result<String, Fail> {
+        let (word, rest) = cut(line, " ");
+        match word {
+            "begin" => {
+                let plan = TxnPlan::of(parts(self.alloc, rest)?).ok().ok_or("a plan")?;
+                self.begun(plan)
+            }
+            "scoped" => {
+                let plan = TxnPlan::scoped(parts(self.alloc, rest)?)
+                    .ok()
+                    .ok_or("a plan")?;
+                self.begun(plan)
+            }
+            "many" => self.begin_many(rest.parse::<u32>()?),
+            "ready" => self.ready(),
+            "plain" => self.plain(rest),
+            "giveup" => self.give_up(rest),
+            "forget" => self.forget(),
+            "resend" => {
+                let outs = self.master.resend(element(rest)?)?;
+                self.told(outs)
+            }
+            "moment" => {
+                let outs = self.master.step(CeIn::Moment(0))?;
+                self.told(outs)
+            }
+            "report" => self.report(),
+            _ => {
+                let (from, said) = cut(rest, " ");
+                self.heard(word, from, said)
+            }
+        }
+    }
+}
