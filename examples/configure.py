@@ -1,5 +1,6 @@
-"""A control element that configures the blocks of router.toml: it reads a port, sets its MTU, adds two routes, reads one back by its
-key, is refused a third with a key that is there, and deletes one. Each request and each answer is printed as text.
+"""A control element that configures the blocks of router.toml: it reads which blocks there are, sets the speed of a port and reads it back,
+adds two routes, reads one back by its key, is refused a third with a key that is there, and deletes one. Each request and each answer is
+printed as text.
 
 Use: python3 examples/configure.py HOST PORT
 
@@ -13,7 +14,8 @@ import sys
 import controller
 import forces
 
-PORT, TABLE = 0x2001, 0x2003
+FE_OBJECT, PORT, TABLE = 1, 0x2001, 0x2003
+LFB_SELECTORS, SPEED = 2, 10
 ROUTES = 1
 
 
@@ -39,9 +41,9 @@ def delete(lfb_class, path):
 
 
 REQUESTS = [
-    get(PORT, forces.Path([5])),
-    put(PORT, forces.Path([5], full=struct.pack(">H", 9000))),
-    get(PORT, forces.Path([5])),
+    get(FE_OBJECT, forces.Path([LFB_SELECTORS])),
+    put(PORT, forces.Path([SPEED], full=struct.pack(">I", 10000))),
+    get(PORT, forces.Path([SPEED])),
     put(TABLE, forces.Path([ROUTES, 1], full=route("10.0.0.0", 8, 7))),
     put(TABLE, forces.Path([ROUTES, 2], full=route("192.0.2.0", 24, 8))),
     get(TABLE, forces.Path([ROUTES], key=key("192.0.2.0", 24))),
