@@ -29,15 +29,15 @@ def key(prefix, length):
 
 
 def get(lfb_class, path):
-    return "Query", forces.Select(lfb_class, 1, [forces.Operation("GET", [path])])
+    return "Query", [forces.Select(lfb_class, 1, [forces.Operation("GET", [path])])]
 
 
 def put(lfb_class, path):
-    return "Config", forces.Select(lfb_class, 1, [forces.Operation("SET", [path])])
+    return "Config", [forces.Select(lfb_class, 1, [forces.Operation("SET", [path])])]
 
 
 def delete(lfb_class, path):
-    return "Config", forces.Select(lfb_class, 1, [forces.Operation("DEL", [path])])
+    return "Config", [forces.Select(lfb_class, 1, [forces.Operation("DEL", [path])])]
 
 
 REQUESTS = [
@@ -52,18 +52,10 @@ REQUESTS = [
     get(TABLE, forces.Path([ROUTES])),
 ]
 
-# An answer is always wanted, and all operations of a Config are done or none.
-FLAGS = {"Query": 0xC0000000, "Config": 0xC0400000}
-
 
 def main():
     with controller.connect(sys.argv[1], int(sys.argv[2])) as connection:
-        element = forces.receive(connection).sender
-        accepted = forces.Message("AssociationSetupResponse", controller.CONTROL, element, number=0)
-        connection.sendall(accepted.encode())
-        for count, (name, select) in enumerate(REQUESTS, start=1):
-            request = forces.Message(name, controller.CONTROL, element, count, FLAGS[name], selects=[select])
-            connection.sendall(request.encode())
+        for request in controller.asked(connection, REQUESTS):
             print(forces.text(request) + forces.text(forces.receive(connection)))
 
 

@@ -13,6 +13,9 @@ import forces
 
 CONTROL = 0x40000001
 
+# An answer is always wanted, and all operations of a Config are done or none.
+FLAGS = {"Query": 0xC0000000, "Config": 0xC0400000}
+
 
 def connect(host, port):
     """The element binds its port once it runs: a few tries are enough."""
@@ -31,6 +34,16 @@ def received(connection):
         sys.exit("the element hung up")
     print("from the element:", message.encode().hex(" ", 4).upper())
     return message
+
+
+def asked(connection, requests):
+    """Associates with the element and sends it the requests, a name and selects each. Gives each message once it was sent."""
+    element = forces.receive(connection).sender
+    connection.sendall(forces.Message("AssociationSetupResponse", CONTROL, element, number=0).encode())
+    for count, (name, selects) in enumerate(requests, start=1):
+        message = forces.Message(name, CONTROL, element, count, FLAGS[name], selects=selects)
+        connection.sendall(message.encode())
+        yield message
 
 
 def main():

@@ -40,9 +40,6 @@ REQUESTS = [
     speed(101),
 ]
 
-# An answer is always wanted, and all operations of a Config are done or none.
-FLAGS = {"Query": 0xC0000000, "Config": 0xC0400000}
-
 
 def sent(connection, element):
     """What the element sends until it answers a heartbeat."""
@@ -53,13 +50,8 @@ def sent(connection, element):
 
 def main():
     with controller.connect(sys.argv[1], int(sys.argv[2])) as connection:
-        element = forces.receive(connection).sender
-        accepted = forces.Message("AssociationSetupResponse", controller.CONTROL, element, number=0)
-        connection.sendall(accepted.encode())
-        for count, (name, selects) in enumerate(REQUESTS, start=1):
-            message = forces.Message(name, controller.CONTROL, element, count, FLAGS[name], selects=selects)
-            connection.sendall(message.encode())
-            print(forces.text(message) + "".join(forces.text(answer) for answer in sent(connection, element)))
+        for message in controller.asked(connection, REQUESTS):
+            print(forces.text(message) + "".join(forces.text(answer) for answer in sent(connection, message.addressee)))
 
 
 if __name__ == "__main__":

@@ -2,7 +2,7 @@
 // For each code that a configuration answers, what has a second cause too, which would come behind it. A configuration never answers 04, 0F, 12
 // and FF.
 pub(crate) const CAUSES: &str =
-    "-- what the lines below are about: eth0 to eth3 fill the array of one port, row 1 stands in the box
+    "-- what the lines below are about: eth0 to eth3 fill the array of one port, the first row stands in the box
 set 4097/1/4/1 01120008657468300000006401 = 00
 set 4097/1/4/2 01120008657468310000006401 = 00
 set 4097/1/4/3 01120008657468320000006401 = 00
