@@ -7,6 +7,8 @@ mod deciding;
 #[cfg(test)]
 mod messages;
 #[cfg(test)]
+mod node;
+#[cfg(test)]
 mod plans;
 #[cfg(test)]
 mod tables;

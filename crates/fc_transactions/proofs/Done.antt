@@ -1,0 +1,91 @@
+-- What is sent for what was done.
+use Rattle.std.proofs.Common.{◌≡◌, ℕ, ◌==◌, Bool, true, false, cond, List, [], ◌∷◌, ◌++◌, refl, sym, ap, ap₂, subst, ◌∙◌, Option, Some, None, Result, Ok, Err}
+use Rattle.std.specs.Prelude.{IfOk, OnOk}
+use Rattle.std.specs.List.{AllByRecursion}
+use Rattle.fc_base.specs.Ids.{Txn}
+use Rattle.fc_base.specs.declared.faults.Memory.{Memory}
+use Rattle.fc_events.specs.Reports.{reports_but}
+use Rattle.fc_events.specs.declared.subscriptions.Notice.{Notice}
+use Rattle.fc_events.specs.declared.subscriptions.Subscription.{Subscription}
+use Rattle.fc_holding.specs.Held.{held_instances, waits}
+use Rattle.fc_msg.specs.declared.message.Message.{Message}
+use Rattle.fc_path.specs.declared.oper.Select.{Select}
+use Rattle.fc_reply.specs.Counting.{each_gets}
+use Rattle.fc_reply.specs.Replies.{reply}
+use Rattle.fc_store.specs.Stores.{Stored}
+use Rattle.fc_performing.specs.Notices.{notice_outs, route}
+use Rattle.fc_performing.specs.Performing.{Performed, done_by, evaluated}
+use Rattle.fc_performing.specs.Performing as performing
+use Rattle.fc_performing.specs.Sending.{IsAnswer, IsSaid, responses}
+use Rattle.fc_performing.specs.declared.answering.Answered.{Answered}
+use Rattle.fc_performing.specs.declared.out.Out.{Out}
+use Rattle.fc_transactions.specs.Done.{IsAnswered, IsDone}
+use Rattle.fc_transactions.specs.Order.{says}
+use Rattle.fc_transactions.specs.Phases.{Did, all_get, executes, others_held, performs, plain}
+use Rattle.fc_transactions.specs.declared.ledger.Ledger.{Ledger}
+
+none_behind : (outs : List Out) → outs ≡ outs ++ []
+none_behind [] = refl
+none_behind (o ∷ outs) = ap (λ os. o ∷ os) (none_behind outs)
+
+module _ (p peer : ℕ) (m : Message) (selects : List Select) where
+  -- a response alone
+  says_is : (codes : List ℕ) (d : Did) → d.codes ≡ codes → d.notices ≡ [] → responses peer (reply m selects codes) ≡ says p peer m selects d
+  says_is codes d e f =
+      ap (λ cs. responses peer (reply m selects cs)) (sym e) ∙ none_behind (responses peer (reply m selects d.codes))
+      ∙ ap (λ (ns : List Notice). responses peer (reply m selects d.codes) ++ notice_outs d.ledger.store.library (route p m.source peer) ns) (sym f)
+
+  pub answered_done : (codes : List ℕ) (a : Answered) → IsAnswered peer m selects codes a → (d : Did) → d.codes ≡ codes → d.notices ≡ [] → IsDone p peer m selects d a
+  answered_done codes a x d e f = record { outs = x.outs ∙ says_is codes d e f; said = x.said; response = x.response ∙ ap (reply m selects) (sym e); proper = x.proper }
+
+  pub if_done : (codes : List ℕ) (r : Result Answered Memory) → IfOk r (λ a. IsAnswered peer m selects codes a) → (d : Did) → d.codes ≡ codes → d.notices ≡ [] → IfOk r (λ a. IsDone p peer m selects d a)
+  if_done codes (Ok a) x d e f = answered_done codes a x d e f
+  if_done codes (Err memory) x d e f = tt
+
+  -- the same of what is the same
+  pub same_done : (d e : Did) (a : Answered) → d ≡ e → IsDone p peer m selects d a → IsDone p peer m selects e a
+  same_done d e a is x = subst (λ k. IsDone p peer m selects k a) is x
+
+  pub if_same : (d e : Did) (r : Result Answered Memory) → d ≡ e → IfOk r (λ a. IsDone p peer m selects d a) → IfOk r (λ a. IsDone p peer m selects e a)
+  if_same d e (Ok a) is x = same_done d e a is x
+  if_same d e (Err memory) is x = tt
+
+  pub on_same : (d e : Did) (now : Ledger) (r : Result Answered Memory) → d ≡ e → OnOk r (now ≡ d.ledger) → OnOk r (now ≡ e.ledger)
+  on_same d e now (Ok a) is x = x ∙ ap (λ (k : Did). k.ledger) is
+  on_same d e now (Err memory) is x = tt
+
+  pub on_idle : (d : Did) (now : Ledger) (r : Result Answered Memory) → now ≡ d.ledger → OnOk r (now ≡ d.ledger)
+  on_idle d now (Ok a) e = e
+  on_idle d now (Err memory) e = tt
+
+  -- ---- what is performed
+  module _ (l : Ledger) (held all : List (ℕ × ℕ)) (is : held ≡ held_instances all None l.records.entries) (there : all ≡ l.store.instances) where
+    held_is : held ≡ others_held l None
+    held_is = is ∙ ap (λ instances. held_instances instances None l.records.entries) there
+
+    performed_is : performs p l selects held (done_by m selects l.store l.subscriptions) ≡ executes p l m selects
+    performed_is = ap (λ h. performs p l selects h (done_by m selects l.store l.subscriptions)) held_is
+
+    performed_done : (a : Answered) → a.outs ≡ performing.says held (route p m.source peer) m selects (done_by m selects l.store l.subscriptions) → AllByRecursion IsSaid a.outs
+        → a.reply ≡ reply m selects (done_by m selects l.store l.subscriptions).codes → IsAnswer a.reply → IsDone p peer m selects (executes p l m selects) a
+    performed_done a outs said response proper =
+        same_done (performs p l selects held (done_by m selects l.store l.subscriptions)) (executes p l m selects) a performed_is (record { outs = outs; said = said; response = response; proper = proper })
+
+    pub if_performed : (r : Result Answered Memory) → IfOk r (λ a. a.outs ≡ performing.says held (route p m.source peer) m selects (done_by m selects l.store l.subscriptions)) → IfOk r (λ a. AllByRecursion IsSaid a.outs)
+        → IfOk r (λ a. a.reply ≡ reply m selects (done_by m selects l.store l.subscriptions).codes) → IfOk r (λ a. IsAnswer a.reply) → IfOk r (λ a. IsDone p peer m selects (executes p l m selects) a)
+    if_performed (Ok a) outs said response proper = performed_done a outs said response proper
+    if_performed (Err memory) outs said response proper = tt
+
+    pub on_performed : (r : Result Answered Memory) (store : Stored) (subs : List Subscription) → OnOk r (store ≡ (done_by m selects l.store l.subscriptions).store)
+        → OnOk r (subs ≡ (evaluated held (done_by m selects l.store l.subscriptions)).0)
+        → OnOk r (◌≡◌ {A = Ledger} (record { records = l.records; holdings = l.holdings; store = store; subscriptions = subs }) (executes p l m selects).ledger)
+    on_performed (Ok a) store subs e f =
+        ap₂ (λ (s : Stored) (them : List Subscription). record { records = l.records; holdings = l.holdings; store = s; subscriptions = them }) e f ∙ ap (λ (d : Did). d.ledger) performed_is
+    on_performed (Err memory) store subs e f = tt
+
+  -- a plain change that waits, and one that does not
+  pub plain_waits : (l : Ledger) → waits l.records.entries selects ≡ true → all_get l selects 18 ≡ plain p l m selects
+  plain_waits l e = sym (ap (λ b. cond b (all_get l selects 18) (executes p l m selects)) e)
+
+  pub plain_goes : (l : Ledger) → waits l.records.entries selects ≡ false → executes p l m selects ≡ plain p l m selects
+  plain_goes l e = sym (ap (λ b. cond b (all_get l selects 18) (executes p l m selects)) e)

@@ -1,0 +1,4 @@
+pub mod Done
+pub mod Rests
+pub mod Openings
+pub mod Turns
