@@ -7,8 +7,6 @@ mod deciding;
 #[cfg(test)]
 mod messages;
 #[cfg(test)]
-mod node;
-#[cfg(test)]
 mod plans;
 #[cfg(test)]
 mod tables;

@@ -1,5 +1,5 @@
-//! Tests of the layers of an element and of what the program stands on beside it: associations, the fence, records, hubs, rounds
-//! and command lines.
+//! Tests of the layers of an element and of what the program stands on beside it: associations, the fence, records, hubs and
+//! command lines.
 #![tactic(auto)]
 
 #[cfg(test)]
@@ -8,8 +8,6 @@ mod associations;
 mod commands;
 #[cfg(test)]
 mod copies;
-#[cfg(test)]
-mod dialling;
 #[cfg(test)]
 mod fence;
 #[cfg(test)]
@@ -22,7 +20,5 @@ mod makers;
 mod patience;
 #[cfg(test)]
 mod records;
-#[cfg(test)]
-mod rounds;
 #[cfg(test)]
 mod tcp;

@@ -1,4 +1,3 @@
-pub mod Bounding
 pub mod Operations
 pub mod Running
 pub mod Steps

@@ -9,5 +9,3 @@ mod limits;
 mod modes;
 #[cfg(test)]
 mod ports;
-#[cfg(test)]
-mod scopes;

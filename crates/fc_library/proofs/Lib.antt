@@ -1,5 +1,4 @@
 pub mod Chain
-pub mod Components
 pub mod Documents
 pub mod Depths
 pub mod Steps

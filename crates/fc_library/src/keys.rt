@@ -11,14 +11,19 @@ use std::alloc::Global;
 use toml::{Table, Value};
 
 /// The value at a key.
-pub fn find<'a>(table: &'a Table, key: &str) -> Option<&'a Value>
+pub(crate) fn find<'a>(table: &'a Table, key: &str) -> Option<&'a Value>
     ensures { option_map (λ v. view v.now) result ≡ get_member key.now (table_view table.now) }
 {
     table.get(key)
 }
 
 /// That each key of the table is one of its own or one of some more.
-pub fn only(alloc: Global, table: &Table, own: &[&str], more: &[&str]) -> Result<(), LibFault>
+pub(crate) fn only(
+    alloc: Global,
+    table: &Table,
+    own: &[&str],
+    more: &[&str],
+) -> Result<(), LibFault>
     ensures { Gives result (spec.only (map (λ key. key.now) own.now ++ map (λ key. key.now) more.now) (table_view table.now)) }
 {
     'members: for (name, _) in table.iter() {
@@ -48,7 +53,7 @@ fn is_among(name: &str, known: &[&str]) -> bool
 }
 
 /// The number at a key that has to be there, from `least` to `most`.
-pub fn number_at(
+pub(crate) fn number_at(
     alloc: Global,
     table: &Table,
     key: &str,
@@ -113,7 +118,7 @@ pub(crate) fn integer_or(
 }
 
 /// The text at a key that has to be there.
-pub fn text_at(alloc: Global, table: &Table, key: &str) -> Result<Text, LibFault>
+pub(crate) fn text_at(alloc: Global, table: &Table, key: &str) -> Result<Text, LibFault>
     ensures { Gives result (spec.text_at key.now (table_view table.now)) }
 {
     match find(table, key) {
@@ -124,7 +129,12 @@ pub fn text_at(alloc: Global, table: &Table, key: &str) -> Result<Text, LibFault
 }
 
 /// The truth value at a key, or a default.
-pub fn truth_or(alloc: Global, table: &Table, key: &str, default: bool) -> Result<bool, LibFault>
+pub(crate) fn truth_or(
+    alloc: Global,
+    table: &Table,
+    key: &str,
+    default: bool,
+) -> Result<bool, LibFault>
     ensures { Gives result (spec.truth_or default key.now (table_view table.now)) }
 {
     match find(table, key) {
@@ -135,7 +145,7 @@ pub fn truth_or(alloc: Global, table: &Table, key: &str, default: bool) -> Resul
 }
 
 /// The array of tables at a key, or none of them.
-pub fn tables_or_none<'a>(
+pub(crate) fn tables_or_none<'a>(
     alloc: Global,
     table: &'a Table,
     key: &str,
@@ -156,7 +166,11 @@ pub fn tables_or_none<'a>(
 }
 
 /// The array of tables at a key that has to be there.
-pub fn tables_at<'a>(alloc: Global, table: &'a Table, key: &str) -> Result<&'a [Value], LibFault>
+pub(crate) fn tables_at<'a>(
+    alloc: Global,
+    table: &'a Table,
+    key: &str,
+) -> Result<&'a [Value], LibFault>
     ensures { GivesBy (λ values. items_view values.now) result (spec.tables_at key.now (table_view table.now)) }
 {
     match find(table, key) {

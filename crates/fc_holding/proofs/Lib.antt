@@ -1,3 +1,0 @@
-pub mod Keeping
-pub mod Participants
-pub mod Recorded

@@ -1,4 +1,0 @@
-pub mod Acts
-pub mod Cut
-pub mod OpenPeers
-pub mod Streaming

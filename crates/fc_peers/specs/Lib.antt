@@ -1,4 +1,0 @@
-pub mod Acting
-pub mod Nexts
-pub mod OpenPeers
-pub mod Streams

@@ -1,4 +1,0 @@
-pub mod Beside
-pub mod Notices
-pub mod Performing
-pub mod Sending

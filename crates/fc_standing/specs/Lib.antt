@@ -1,2 +1,0 @@
-pub mod Basis
-pub mod Holding

@@ -1,4 +1,0 @@
-pub mod Done
-pub mod Rests
-pub mod Openings
-pub mod Turns

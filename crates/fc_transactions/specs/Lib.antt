@@ -1,5 +1,0 @@
-pub mod Done
-pub mod Order
-pub mod Phases
-pub mod Sound
-pub mod State
