@@ -44,11 +44,111 @@ Heartbeat C0000000 =
 element 2 epoch 0 ce 40000001 sequence 0
 config 00000002 00000001 5 00000010
 config 00000002 00000001 6 01
-config 00000002 00000001 7 00000002";
+config 00000002 00000001 7 00000002
+
+-- no silence is too long where that is configured
+AssociationSetupResponse 00000000 | result 0 =
+Config C0400000 | lfb 00000002 00000001 | SET | path 4 | full 01 | path 5 | full 00000010 = 1 ConfigResponse 00 00
+moment 4000000000 =
+Heartbeat C0000000 = 1 Heartbeat
+Config C0400000 | lfb 00000002 00000001 | SET | path 4 | full 00 = 1 ConfigResponse 00
+moment 4000000017 =
+Heartbeat C0000000 =
+element 2 epoch 0 ce 40000001 sequence 0
+config 00000002 00000001 5 00000010";
 
 #[test]
 fn an_association_is_held_by_heartbeats(rt: HostRuntime) -> Result<(), Fail> {
     assert_eq!(rt; first_wrong(rt.alloc(), "", HELD, 65_536)?, None);
+    Ok(())
+}
+
+// A query, a Config that is done and one that is refused for its sender or its transaction are signs of life; one for another element, without a
+// mode or that can't be answered is none.
+const RENEWED: &str = "\
+-- a query
+AssociationSetupResponse 00000000 | result 0 =
+moment 20000 =
+Query 00000000 | lfb 00000001 00000001 | GET | path 7 = 1 QueryResponse 02
+moment 50000 =
+Heartbeat C0000000 = 1 Heartbeat
+element 2 epoch 0 ce 40000001 sequence 0
+
+-- a Config, whatever its codes
+AssociationSetupResponse 00000000 | result 0 =
+AssociationSetupResponse 00000000 40000002 00000002 | result 0 =
+moment 20000 =
+Config C0400000 | lfb 00000009 00000001 | DEL | path 1 = 1 ConfigResponse 05
+Config C0600000 40000002 00000002 | lfb 00000009 00000001 | DEL | path 1 = 1 ConfigResponse 0C
+moment 50000 =
+Heartbeat C0000000 = 1 Heartbeat
+Heartbeat C0000000 40000002 00000002 = 1 Heartbeat
+element 2 epoch 0 ce 40000001 sequence 0
+
+-- of a transaction
+AssociationSetupResponse 00000000 | result 0 =
+moment 20000 =
+Config C0600000 | lfb 00000009 00000001 | DEL | path 1 = 1 ConfigResponse 15
+moment 50000 =
+Heartbeat C0000000 = 1 Heartbeat
+element 2 epoch 0 ce 40000001 sequence 0
+
+-- for another element, without a mode as well
+AssociationSetupResponse 00000000 | result 0 =
+moment 20000 =
+Config C0000000 40000001 00000003 | lfb 00000009 00000001 | DEL | path 1 = 1 ConfigResponse 04
+moment 30001 =
+Heartbeat C0000000 =
+element 2 epoch 0 ce 40000001 sequence 0
+
+-- without a mode, from another control element as well
+AssociationSetupResponse 00000000 | result 0 =
+AssociationSetupResponse 00000000 40000002 00000002 | result 0 =
+moment 20000 =
+Config C0000000 | lfb 00000009 00000001 | DEL | path 1 = 1 ConfigResponse 12
+Config C0200000 40000002 00000002 | lfb 00000009 00000001 | DEL | path 1 = 1 ConfigResponse 12
+moment 30001 =
+Heartbeat C0000000 =
+Heartbeat C0000000 40000002 00000002 =
+element 2 epoch 0 ce 40000001 sequence 0";
+
+#[test]
+fn what_is_taken_is_a_sign_of_life(rt: HostRuntime) -> Result<(), Fail> {
+    assert_eq!(rt; first_wrong(rt.alloc(), "", RENEWED, 65_536)?, None);
+    Ok(())
+}
+
+// So many of one path.
+fn push_paths(case: &mut Vec<u8>, path: &str, count: usize) -> Result<(), Memory> {
+    for _ in 0..count {
+        case.extend_from_slice(path.as_bytes())?;
+    }
+    Ok(())
+}
+
+// A query and a Config of so many paths that their results alone pass a length field: neither is answered, the Config is not done and no sign of
+// life.
+fn unanswerable(alloc: Global) -> Result<String, Fail> {
+    let mut case = Vec::new(alloc);
+    case.extend_from_slice(
+        b"AssociationSetupResponse 00000000 | result 0 =\nmoment 20000 =\nQuery C0000000 | lfb 00000001 00000001 | GET",
+    )?;
+    push_paths(&mut case, " | path 1 1 1 1 1", 2_000)?;
+    case.extend_from_slice(
+        b" =\nmoment 50000 =\nHeartbeat C0000000 = 1 Heartbeat\nmoment 70000 =\nConfig C0C00000 | lfb 00000002 00000001 | SET | path 7 | full 00000001 | DEL",
+    )?;
+    push_paths(&mut case, " | path 1 1 1 1 1", 2_000)?;
+    case.extend_from_slice(
+        b" =\nmoment 80001 =\nHeartbeat C0000000 =\nelement 2 epoch 0 ce 40000001 sequence 0",
+    )?;
+    Ok(String::from_utf8(case).ok().ok_or("a text")?)
+}
+
+#[test]
+fn what_has_no_room_for_its_results_is_not_answered(rt: HostRuntime) -> Result<(), Fail> {
+    let alloc = rt.alloc();
+    let case = unanswerable(alloc)?;
+    assert_eq!(rt; first_wrong(alloc, "", case.as_str(), 65_536)?, None);
     Ok(())
 }
 

@@ -1,5 +1,4 @@
-//! Tests of the layers of an element and of what the program stands on beside it: associations, the fence, records, hubs and
-//! command lines.
+//! Tests of the layers of an element and of command lines: associations, the fence, records and copies.
 #![tactic(auto)]
 
 #[cfg(test)]
@@ -11,14 +10,6 @@ mod copies;
 #[cfg(test)]
 mod fence;
 #[cfg(test)]
-mod hubs;
-#[cfg(test)]
-mod links;
-#[cfg(test)]
 mod makers;
 #[cfg(test)]
-mod patience;
-#[cfg(test)]
 mod records;
-#[cfg(test)]
-mod tcp;

@@ -1,8 +1,7 @@
 -- What an operation does to a store on which marks stand.
-use Rattle.std.proofs.Common.{◌≡◌, ℕ, zero, suc, ◌-◌, ◌<◌, Bool, true, false, not, ◌&&◌, ◌||◌, List, [], ◌∷◌, length, map, slice_get, slice_set, slice_index_or, refl, sym, ap, subst, ◌∙◌, arith, Option, Some, None, option_map, Result, Ok, Err}
+use Rattle.std.proofs.Common.{◌≡◌, ℕ, zero, suc, ◌-◌, ◌<◌, Bool, true, false, not, ◌&&◌, ◌||◌, List, [], ◌∷◌, length, map, slice_get, slice_set, slice_index_or, refl, sym, ap, ◌∙◌, arith, Option, Some, None, option_map, Result, Ok, Err}
 use Rattle.std.specs.List.{list_any}
 use Rattle.fc_base.specs.Answers.{◌>>=◌}
-use Rattle.fc_path.specs.declared.oper.Leaf.{Leaf}
 use Rattle.fc_path.specs.declared.oper.OperKind.{OperKind}
 use Rattle.fc_path.specs.declared.oper.OperKind.TheVariants as kinds
 use Rattle.fc_path.specs.declared.oper.Spot.{Spot}
@@ -10,7 +9,6 @@ use Rattle.fc_path.specs.declared.path.Body.{Body, out-Body}
 use Rattle.fc_path.specs.declared.path.Body.TheOpen.{Body-F}
 use Rattle.fc_path.specs.declared.path.PathData.{PathData}
 use Rattle.fc_instance.specs.Cells.{merge_cell, put_cell, remove_cell}
-use Rattle.fc_tree.specs.Finding.{no_component}
 use Rattle.fc_types.specs.Components.{ComponentDecl}
 use Rattle.fc_types.specs.Libraries.{same_instance}
 use Rattle.fc_value.specs.declared.value.Value.{Value}
@@ -18,7 +16,7 @@ use Rattle.fc_store.specs.Scopes.{at, each_at}
 use Rattle.fc_store.specs.Spots.{not_supported, resolved}
 use Rattle.fc_store.specs.Stores.{Change, Components, Stored, Tree, changed, changed_at, declared_in, further, gone_back, is_in, over_mark, places_in, present, value_in, value_of, with_component, with_value, without_mark}
 use Rattle.fc_store.specs.declared.spots.Purpose.TheVariants as purpose
-use Rattle.fc_store.proofs.Apart.{Made, made}
+use Rattle.fc_store.proofs.Apart.{made}
 use Rattle.fc_store.proofs.Doing.{err_ok, leads, same_tree}
 use Rattle.fc_store.proofs.Lists.{get_map, map_at, map_each, none_some, some_is}
 use Rattle.fc_exec.specs.Operations.{applied, at_marks, coded, invalid_flags, leaf_made, set_spot}
@@ -110,7 +108,8 @@ coded_less : (mark : List (ℕ × ℕ)) (s : Stored) (r : Result Stored ℕ) →
 coded_less mark s (Ok t) = refl
 coded_less mark s (Err code) = refl
 
-applied_less : (op : Operation) (mark : List (ℕ × ℕ)) (s : Stored) → applied (less mark s) op ≡ (less mark (applied s op).0, (applied s op).1)
+-- an operation does not look at a mark, and keeps it
+pub applied_less : (op : Operation) (mark : List (ℕ × ℕ)) (s : Stored) → applied (less mark s) op ≡ (less mark (applied s op).0, (applied s op).1)
 applied_less op mark s = ap (coded (less mark s)) (made_less op mark s) ∙ coded_less mark s (spec.made op s)
 
 applied_unmarked : (op : Operation) (mark : Option (List (ℕ × ℕ))) (s : Stored) → applied (unmarked mark s) op ≡ (unmarked mark (applied s op).0, (applied s op).1)
@@ -124,11 +123,11 @@ effect_is n mark old new op code e =
     ap (λ (x : Stored × ℕ). ((n, x.0), x.1)) p
 
 -- ---- what a change leaves
-record Touched (spot : Spot) (s t : Stored) : Type 0 where
-  place : ℕ × ℕ
-  v : Option Value
-  leads : resolved purpose.Write s.library s.instances spot.class spot.instance spot.steps ≡ Ok place
-  is : t ≡ with_value s place v
+pub record Touched (spot : Spot) (s t : Stored) : Type 0 where
+  pub place : ℕ × ℕ
+  pub v : Option Value
+  pub leads : resolved purpose.Write s.library s.instances spot.class spot.instance spot.steps ≡ Ok place
+  pub is : t ≡ with_value s place v
 
 touched_by : (f : Change) (spot : Spot) (s t : Stored) → changed f spot s ≡ Ok t → Touched spot s t
 touched_by f spot s t e = let m = made f spot s t e in record { place = m.place; v = m.v; leads = m.leads; is = m.is }
@@ -140,7 +139,8 @@ set_touched spot (Body-F.Sparse ilvs) s t e = touched_by (λ component v. merge_
 set_touched spot (Body-F.Outcome code) s t e = absurd (err_ok not_supported t e)
 set_touched spot (Body-F.Nested paths) s t e = absurd (err_ok not_supported t e)
 
-leaf_touched : (kind : OperKind) (spot : Spot) (b : Body) (s t : Stored) → leaf_made kind spot b s ≡ Ok t → Touched spot s t
+-- what a leaf changes lies at its instance
+pub leaf_touched : (kind : OperKind) (spot : Spot) (b : Body) (s t : Stored) → leaf_made kind spot b s ≡ Ok t → Touched spot s t
 leaf_touched kinds.Set spot b s t e = set_touched spot (out-Body b) s t e
 leaf_touched kinds.Del spot b s t e = touched_by (λ component v. remove_cell component.optional (further spot.steps) component.ty v) spot s t e
 leaf_touched kinds.SetProp spot b s t e = absurd (err_ok not_supported t e)
@@ -198,7 +198,7 @@ back_if true c v t e m = back_same c v t m
 back_if false c v t e m = absurd cc
 
 -- what is given back to an instance of the scope does not depend on what it holds now
-back_within : (scope pairs : List (ℕ × ℕ)) (ts : List Tree) (i c : ℕ) (v : Option Value) (p : ℕ × ℕ) → slice_get pairs i ≡ Some p → is_in scope p ≡ true → all_marked scope pairs (map holds ts) ≡ true
+pub back_within : (scope pairs : List (ℕ × ℕ)) (ts : List Tree) (i c : ℕ) (v : Option Value) (p : ℕ × ℕ) → slice_get pairs i ≡ Some p → is_in scope p ≡ true → all_marked scope pairs (map holds ts) ≡ true
     → within gone_back scope pairs (at (with_component c v) i ts) ≡ within gone_back scope pairs ts
 back_within scope [] ts i c v p e b a = absurd (none_some p e)
 back_within scope (q ∷ pairs) [] i c v p e b a = refl

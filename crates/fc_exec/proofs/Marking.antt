@@ -1,5 +1,5 @@
 -- A mark over the instances of a scope, and how it ends.
-use Rattle.std.proofs.Common.{◌≡◌, ℕ, ◌+◌, ◌-◌, ◌==◌, Bool, true, false, not, ◌&&◌, ◌||◌, List, [], ◌∷◌, ◌++◌, length, map, drop, take, slice_get, slice_index_or, refl, sym, ap, ◌∙◌, arith, Option, Some, None, Result, Ok, Err, IfOk, OnErr, if◌then◌else◌}
+use Rattle.std.proofs.Common.{◌≡◌, ℕ, ◌+◌, ◌==◌, Bool, true, false, not, ◌&&◌, ◌||◌, List, [], ◌∷◌, ◌++◌, length, map, drop, slice_get, refl, ap, ◌∙◌, arith, Option, Some, None, Result, Ok, Err, IfOk, OnErr, if◌then◌else◌}
 use Rattle.std.proofs.lemmas.Bool.Decides.{nat_tests}
 use Rattle.std.specs.Option.{is_some}
 use Rattle.fc_base.specs.declared.faults.Memory.{Memory}
@@ -57,7 +57,7 @@ has_mark : (b : Bool) (t : Tree) → (not b || is_marked (changed_if with_mark b
 has_mark true t = one_more t.held t.now
 has_mark false t = refl
 
-all_have : (scope pairs : List (ℕ × ℕ)) (ts : List Tree) → all_marked scope pairs (map holds (within with_mark scope pairs ts)) ≡ true
+pub all_have : (scope pairs : List (ℕ × ℕ)) (ts : List Tree) → all_marked scope pairs (map holds (within with_mark scope pairs ts)) ≡ true
 all_have scope [] ts = refl
 all_have scope (p ∷ pairs) [] = refl
 all_have scope (p ∷ pairs) (t ∷ ts) =
@@ -82,10 +82,10 @@ undone change e scope s =
     ∙ ap (within change scope s.instances) (set_within scope s) ∙ within_undone with_mark change e scope s.instances s.trees in
     λ i. record { library = s.library; instances = s.instances; trees = p i }
 
-less_one : (t : Tree) → without_mark (with_mark t) ≡ t
+pub less_one : (t : Tree) → without_mark (with_mark t) ≡ t
 less_one t = same_tree (without_mark (with_mark t)) t refl (front_of t.held t.now (t.held ++ t.now ∷ []) refl)
 
-back_one : (t : Tree) → gone_back (with_mark t) ≡ t
+pub back_one : (t : Tree) → gone_back (with_mark t) ≡ t
 back_one t = same_tree (gone_back (with_mark t)) t (last_of t.held t.now (t.held ++ t.now ∷ []) t.now refl) (front_of t.held t.now (t.held ++ t.now ∷ []) refl)
 
 -- a mark that is set changes nothing of the store without it

@@ -65,7 +65,7 @@ err_kept (Ok codes) n s now e = tt
 err_kept (Err memory) n s now e = ap (λ (x : Named). x.1) e
 
 -- ---- what stands at the marks
-folded_stay : (s : Stored) (ops : List Operation) → at_marks (folded applied s ops) ≡ at_marks s
+pub folded_stay : (s : Stored) (ops : List Operation) → at_marks (folded applied s ops) ≡ at_marks s
 folded_stay s [] = refl
 folded_stay s (op ∷ ops) = folded_stay (applied s op).0 ops ∙ at_marks_stay s op
 

@@ -1,8 +1,8 @@
 -- Changes at the places of the instances that a scope has.
-use Rattle.std.proofs.Common.{◌≡◌, ℕ, zero, suc, ◌+◌, ◌-◌, ◌<◌, Bool, true, false, List, [], ◌∷◌, ◌++◌, length, map, slice_get, slice_set, slice_index_or, refl, sym, ap, ◌∙◌, arith, Option, Some, None, if◌then◌else◌}
+use Rattle.std.proofs.Common.{◌≡◌, ℕ, zero, suc, ◌+◌, Bool, true, false, List, [], ◌∷◌, map, slice_get, refl, sym, ap, ◌∙◌, arith, Option, Some, None, if◌then◌else◌}
 use Rattle.fc_store.specs.Scopes.{at, at_one, each_at}
 use Rattle.fc_store.specs.Stores.{is_in, places_in}
-use Rattle.fc_store.proofs.Lists.{none_some, some_is, set_same}
+use Rattle.fc_store.proofs.Lists.{set_same}
 
 -- ---- one place
 pub at_nil : {A : Type 0} (f : A → A) (i : ℕ) → at f i [] ≡ []

@@ -3,7 +3,7 @@ use Rattle.std.proofs.Common.{◌≡◌, ℕ, List, [], ◌∷◌, ◌++◌, map
 use Rattle.std.proofs.lemmas.List.{map-append}
 use Rattle.std.specs.List.{flat_map}
 use Rattle.fc_path.proofs.Flattening.{nested_leaves}
-use Rattle.fc_path.specs.Leaves.{body_leaves, path_leaves, oper_leaves}
+use Rattle.fc_path.specs.Leaves.{body_leaves, path_leaves}
 use Rattle.fc_path.specs.declared.oper.Oper.TheVariants as oper
 use Rattle.fc_path.specs.declared.oper.OperKind.{OperKind}
 use Rattle.fc_path.specs.declared.oper.Step.{Step}

@@ -1,3 +1,4 @@
+pub mod Bounding
 pub mod Operations
 pub mod Running
 pub mod Steps

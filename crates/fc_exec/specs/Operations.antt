@@ -1,11 +1,11 @@
 -- The operations of a Config, what each does to a store, and what all of them do in an execution mode: RFC 5810, sections 4.3.1.1 and 7.1.6.
--- That a SET-PROP is not supported, and that COMMIT and TRCOMP have invalid flags where no transaction takes them, is this profile's own.
-use Rattle.std.specs.Prelude.{ℕ, List, [], ◌∷◌, map, Result, Ok, Err}
+-- That a SET-PROP is not supported, that COMMIT and TRCOMP have invalid flags where no transaction takes them, and that a transaction changes
+-- nothing outside its scope, is this profile's own.
+use Rattle.std.specs.Prelude.{ℕ, Bool, true, List, [], ◌∷◌, map, Option, Some, None, Result, Ok, Err, if◌then◌else◌}
 use Rattle.std.specs.List.{flat_map}
 use Rattle.fc_modes.specs.Modes.{Outcome, outcome}
 use Rattle.fc_modes.specs.declared.mode.Mode.{Mode}
 use Rattle.fc_path.specs.Leaves.{oper_leaves}
-use Rattle.fc_path.specs.declared.oper.Leaf.{Leaf}
 use Rattle.fc_path.specs.declared.oper.Oper.{Oper}
 use Rattle.fc_path.specs.declared.oper.Oper.TheVariants as oper
 use Rattle.fc_path.specs.declared.oper.OperKind.{OperKind}
@@ -16,7 +16,8 @@ use Rattle.fc_path.specs.declared.path.Body.{Body, out-Body}
 use Rattle.fc_path.specs.declared.path.Body.TheOpen.{Body-F}
 use Rattle.fc_path.specs.declared.path.PathData.{PathData}
 use Rattle.fc_store.specs.Spots.{not_supported}
-use Rattle.fc_store.specs.Stores.{Components, Stored, merge_spot, put_spot, remove_spot}
+use Rattle.fc_store.specs.Stores.{Components, Stored, is_in, merge_spot, put_spot, remove_spot}
+use Rattle.fc_value.specs.Outcomes.{invalid_parameters}
 use Rattle.fc_exec.specs.declared.operations.Operation.{Operation}
 use Rattle.fc_exec.specs.declared.operations.Operation.TheVariants as operation
 
@@ -80,10 +81,30 @@ coded s (Err code) = (s, code)
 abbrev pub applied : Stored → Operation → Stored × ℕ
 applied s op = coded s (made op s)
 
+-- ---- within a scope
+-- the instance at which an operation lies, whatever it is; COMMIT and TRCOMP lie at none
+abbrev pub place_of : Operation → Option (ℕ × ℕ)
+place_of (operation.Leaf l) = Some (l.spot.class, l.spot.instance)
+place_of operation.Commit = None
+place_of operation.Trcomp = None
+
+-- whether a scope has the instance; what lies at none is outside of no scope
+abbrev pub is_inside : List (ℕ × ℕ) → Option (ℕ × ℕ) → Bool
+is_inside scope None = true
+is_inside scope (Some pair) = is_in scope pair
+
+-- an operation outside a scope is refused in place of what it does
+abbrev pub within : List (ℕ × ℕ) → Stored → Operation → Stored × ℕ
+within scope s op = if is_inside scope (place_of op) then applied s op else (s, invalid_parameters)
+
 -- ---- all operations
 -- what the operations of selects do to a store in a mode, the code of each, and those of them that are done
 abbrev pub executed : Mode → Stored → List Select → Outcome Stored Operation
 executed mode s selects = outcome applied mode s (operations selects)
+
+-- the same within a scope
+abbrev pub executed_within : List (ℕ × ℕ) → Mode → Stored → List Select → Outcome Stored Operation
+executed_within scope mode s selects = outcome (within scope) mode s (operations selects)
 
 -- what each instance holds at the marks that stand there
 abbrev pub at_marks : Stored → List (List Components)

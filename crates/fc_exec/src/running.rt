@@ -72,8 +72,8 @@ fn carry_out(store: &mut Store, operation: &Operation<'_>) -> Result<Code, Memor
     }
 }
 
-// Ends a mark that may still stand, and keeps what was done.
-fn end(store: &mut Store, mark: Option<StoreMark>)
+/// Ends a mark that may still stand, and keeps what was done.
+pub fn end(store: &mut Store, mark: Option<StoreMark>)
     ensures { store.new ≡ unmarked mark store.old }
 {
     if let Some(mark) = mark {
@@ -84,9 +84,9 @@ fn end(store: &mut Store, mark: Option<StoreMark>)
 /// What runs operations at the instances of a scope. It has room for one mark, which is over these alone.
 #[derive(Drop)]
 pub struct Running<'s, 'o> {
-    store: &'s mut Store,
-    scope: Vec<(u32, u32)>,
-    mark: Option<StoreMark>,
+    pub(crate) store: &'s mut Store,
+    pub(crate) scope: Vec<(u32, u32)>,
+    pub(crate) mark: Option<StoreMark>,
     operations: PhantomData<&'o Operation<'o>>,
 }
 

@@ -20,7 +20,7 @@ pub(crate) fn opened(alloc: Global) -> Result<Store, Memory> {
     }
 }
 
-fn numbers(alloc: Global, codes: &[Code]) -> Result<Vec<u8>, Memory> {
+pub(crate) fn numbers(alloc: Global, codes: &[Code]) -> Result<Vec<u8>, Memory> {
     let mut numbers = Vec::new(alloc);
     for code in codes {
         numbers.push(code.0)?;

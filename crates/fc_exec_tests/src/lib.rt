@@ -9,3 +9,5 @@ mod limits;
 mod modes;
 #[cfg(test)]
 mod ports;
+#[cfg(test)]
+mod scopes;

@@ -1,5 +1,5 @@
 -- How a reader's answer follows from the answers of its parts.
-use Rattle.std.proofs.Common.{◌++◌, ◌||◌, ◌≡◌, ◌≢◌, ℕ, Bool, true, false, List, [], ◌∷◌, Result, Err, String, Global, string_bytes, Less, refl, sym, inl, inr}
+use Rattle.std.proofs.Common.{◌++◌, ◌||◌, ◌≡◌, ◌≢◌, ℕ, Bool, true, false, List, [], ◌∷◌, Option, Some, None, IfSome, Result, Ok, Err, String, Global, string_bytes, Less, refl, sym, subst, inl, inr}
 use Rattle.std.proofs.lemmas.Bool.{cases_Bool}
 use Rattle.std.proofs.lemmas.List.Folds.{list_any-append}
 use Rattle.std.specs.List.{AllByRecursion}
@@ -10,8 +10,9 @@ use Rattle.std.specs.String.{string_cmp}
 use Rattle.toml.proofs.Views.{Entry}
 use Rattle.toml.specs.View.{members_view}
 use Rattle.fc_library.specs.declared.fault.LibFault.{LibFault}
-use Rattle.fc_library.specs.declared.fault.LibFault.TheVariants.{NotToml, Unknown, Missing, WrongKind, Check, Memory}
-use Rattle.fc_library.specs.Gives.{GivesBy, Gives}
+use Rattle.fc_library.specs.declared.fault.LibFault.TheVariants.{NotToml, Unknown, Missing, WrongKind, Check, Rule, Memory}
+use Rattle.fc_base.specs.Answers.{◌>>=◌}
+use Rattle.fc_library.specs.Gives.{GivesBy, Gives, told}
 use Rattle.fc_library.specs.Keys.{is_among, unknown_keys, least_from, only}
 
 -- a fault that is the one meant, unless memory ran out
@@ -21,7 +22,21 @@ gives_fault h (Unknown k) g meant same e = rw (same (λ x. cc)) e
 gives_fault h (Missing k) g meant same e = rw (same (λ x. cc)) e
 gives_fault h (WrongKind k) g meant same e = rw (same (λ x. cc)) e
 gives_fault h (Check k) g meant same e = rw (same (λ x. cc)) e
+gives_fault h (Rule k) g meant same e = rw (same (λ x. cc)) e
 gives_fault h Memory g meant same e = tt
+
+-- the fault of a reader is that of the chain that it begins
+told_on : {A B : Type 0} (o : Option LibFault) (r : Result A LibFault) (next : A → Result B LibFault) → IfSome o (λ fault. r ≡ Err fault) → IfSome o (λ fault. (r >>= next) ≡ Err fault)
+told_on None r next h = tt
+told_on (Some fault) (Ok x) next h = cc
+told_on (Some fault) (Err other) next h = cc
+
+pub bind_fails : {A B : Type 0} (f : LibFault) (r : Result A LibFault) (next : A → Result B LibFault) → Gives {A = A} (Err f) r → Gives {A = B} (Err f) (r >>= next)
+bind_fails f r next h = told_on (told f) r next h
+
+-- and where that one gives something, the fault of the rest is that of the chain
+pub goes_on : {A B : Type 0} (f : LibFault) (r : Result A LibFault) (x : A) (next : A → Result B LibFault) → r ≡ Ok x → Gives {A = B} (Err f) (next x) → Gives {A = B} (Err f) (r >>= next)
+goes_on f r x next e h = subst (λ (s : Result _ LibFault). Gives (Err f) (s >>= next)) (sym e) h
 
 -- a key before others, by the bytes of both, is the least of all, and so of those that are not known
 pub first_is_least : (known : List (List ℕ)) (name : String Global) (es : List Entry) → AllByRecursion (λ y. string_cmp name y ≡ Less) (entry_keys es)

@@ -7,8 +7,9 @@ use Rattle.fc_types.specs.Libraries.{class_rules, instance_rules, first_broken, 
 use Rattle.fc_types.specs.declared.class.Class.{Class}
 use Rattle.fc_types.specs.declared.fault.CheckFault.{CheckFault}
 use Rattle.fc_types.specs.declared.fault.CheckFault.TheVariants as checks
+use Rattle.fc_library.specs.declared.fault.DocumentRule.{DocumentRule}
 use Rattle.fc_library.specs.declared.fault.LibFault.{LibFault}
-use Rattle.fc_library.specs.declared.fault.LibFault.TheVariants.{NotToml, Check, Memory}
+use Rattle.fc_library.specs.declared.fault.LibFault.TheVariants.{NotToml, Check, Rule, Memory}
 use Rattle.fc_base.specs.Answers.{◌>>=◌}
 use Rattle.fc_library.specs.Declarations.{declaration}
 use Rattle.fc_library.specs.Documents.{document, checked_by, checked, library_in, library_of}
@@ -51,6 +52,10 @@ no_memory : (given : Given) (found : Option CheckFault) → checked_by given fou
 no_memory given None e = cc
 no_memory given (Some fault) e = cc
 
+no_rule : (given : Given) (found : Option CheckFault) (rule : DocumentRule) → checked_by given found ≢ Err (Rule rule)
+no_rule given None rule e = cc
+no_rule given (Some fault) rule e = cc
+
 -- the same, of what the tables declare
 read_toml : (r : Result Given LibFault) → of_keys r ≡ true → (r >>= checked) ≢ Err NotToml
 read_toml (Ok given) h e = no_toml given (first_fault given.0 given.1) e
@@ -67,6 +72,10 @@ read_accepted (Err f) other e = cc
 read_memory : (r : Result Given LibFault) → of_keys r ≡ true → (r >>= checked) ≢ Err Memory
 read_memory (Ok given) h e = no_memory given (first_fault given.0 given.1) e
 read_memory (Err fault) h e = cc
+
+read_rule : (r : Result Given LibFault) (rule : DocumentRule) → of_keys r ≡ true → (r >>= checked) ≢ Err (Rule rule)
+read_rule (Ok given) rule h e = no_rule given (first_fault given.0 given.1) rule e
+read_rule (Err fault) rule h e = cc
 
 read_want : (r : Result Given LibFault) → of_keys r ≡ true → (r >>= checked) ≢ Err (Check checks.Memory)
 read_want r h e = let (given, is, fault) = read_refused r checks.Memory h e in no_want given.0 given.1 fault
@@ -104,6 +113,13 @@ accepted bytes given = (λ e. accepted_in (document bytes) given e, λ h. accept
 memory_in : (o : Option Members) → library_in o ≢ Err Memory
 memory_in None e = cc
 memory_in (Some ms) e = read_memory (declaration ms) (declaration_keys ms) e
+
+rule_in : (o : Option Members) (rule : DocumentRule) → library_in o ≢ Err (Rule rule)
+rule_in None rule e = cc
+rule_in (Some ms) rule e = read_rule (declaration ms) rule (declaration_keys ms) e
+
+pub no_rule_broken : (bytes : List ℕ) (rule : DocumentRule) → library_of bytes ≢ Err (Rule rule)
+no_rule_broken bytes rule = rule_in (document bytes) rule
 
 want_in : (o : Option Members) → library_in o ≢ Err (Check checks.Memory)
 want_in None e = cc

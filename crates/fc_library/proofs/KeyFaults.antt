@@ -22,7 +22,7 @@ abbrev pub of_keys : {A : Type 0} → Result A LibFault → Bool
 of_keys (Ok x) = true
 of_keys (Err fault) = is_of_key fault
 
-bind_keys : {A B : Type 0} (r : Result A LibFault) (next : A → Result B LibFault) → of_keys r ≡ true → ((x : A) → of_keys (next x) ≡ true) → of_keys (r >>= next) ≡ true
+pub bind_keys : {A B : Type 0} (r : Result A LibFault) (next : A → Result B LibFault) → of_keys r ≡ true → ((x : A) → of_keys (next x) ≡ true) → of_keys (r >>= next) ≡ true
 bind_keys (Ok x) next h more = more x
 bind_keys (Err fault) next h more = h
 
@@ -34,14 +34,14 @@ none_keys : (keys : List (List ℕ)) → of_keys (none_of keys) ≡ true
 none_keys [] = refl
 none_keys (k ∷ keys) = refl
 
-only_keys : (known : List (List ℕ)) (ms : Members) → of_keys (only known ms) ≡ true
+pub only_keys : (known : List (List ℕ)) (ms : Members) → of_keys (only known ms) ≡ true
 only_keys known ms = none_keys (unknown_keys known ms)
 
 needed_keys : {A : Type 0} (key : List ℕ) (read : Data → Result A LibFault) (o : Option Data) → ((d : Data) → of_keys (read d) ≡ true) → of_keys (needed key read o) ≡ true
 needed_keys key read None h = refl
 needed_keys key read (Some d) h = h d
 
-given_keys : {A : Type 0} (default : A) (read : Data → Result A LibFault) (o : Option Data) → ((d : Data) → of_keys (read d) ≡ true) → of_keys (given default read o) ≡ true
+pub given_keys : {A : Type 0} (default : A) (read : Data → Result A LibFault) (o : Option Data) → ((d : Data) → of_keys (read d) ≡ true) → of_keys (given default read o) ≡ true
 given_keys default read None h = refl
 given_keys default read (Some d) h = h d
 
@@ -54,7 +54,7 @@ in_keys key least most None = refl
 in_keys key least most (Some (pos n)) = either_keys (nat_le least n && nat_le n most) (Ok n) (Err (WrongKind key)) refl refl
 in_keys key least most (Some (negsuc n)) = refl
 
-number_keys : (key : List ℕ) (least most : ℕ) (ms : Members) → of_keys (number_at key least most ms) ≡ true
+pub number_keys : (key : List ℕ) (least most : ℕ) (ms : Members) → of_keys (number_at key least most ms) ≡ true
 number_keys key least most ms = needed_keys key (number key least most) (get_member key ms) (λ d. in_keys key least most (as_integer d))
 
 number_or_keys : (default : ℕ) (key : List ℕ) (most : ℕ) (ms : Members) → of_keys (number_or default key most ms) ≡ true
@@ -72,7 +72,7 @@ text_in key (datetime t) = refl
 text_in key (array ds) = refl
 text_in key (table ms) = refl
 
-text_keys : (key : List ℕ) (ms : Members) → of_keys (text_at key ms) ≡ true
+pub text_keys : (key : List ℕ) (ms : Members) → of_keys (text_at key ms) ≡ true
 text_keys key ms = needed_keys key (text key) (get_member key ms) (text_in key)
 
 truth_in : (key : List ℕ) (d : Data) → of_keys (truth key d) ≡ true
@@ -84,7 +84,7 @@ truth_in key (datetime t) = refl
 truth_in key (array ds) = refl
 truth_in key (table ms) = refl
 
-truth_keys : (default : Bool) (key : List ℕ) (ms : Members) → of_keys (truth_or default key ms) ≡ true
+pub truth_keys : (default : Bool) (key : List ℕ) (ms : Members) → of_keys (truth_or default key ms) ≡ true
 truth_keys default key ms = given_keys default (truth key) (get_member key ms) (truth_in key)
 
 tables_in : (key : List ℕ) (d : Data) → of_keys (tables key d) ≡ true
@@ -96,10 +96,10 @@ tables_in key (datetime t) = refl
 tables_in key (array ds) = either_keys (are_tables ds) (Ok ds) (Err (WrongKind key)) refl refl
 tables_in key (table ms) = refl
 
-tables_keys : (key : List ℕ) (ms : Members) → of_keys (tables_at key ms) ≡ true
+pub tables_keys : (key : List ℕ) (ms : Members) → of_keys (tables_at key ms) ≡ true
 tables_keys key ms = needed_keys key (tables key) (get_member key ms) (tables_in key)
 
-tables_or_keys : (key : List ℕ) (ms : Members) → of_keys (tables_or_none key ms) ≡ true
+pub tables_or_keys : (key : List ℕ) (ms : Members) → of_keys (tables_or_none key ms) ≡ true
 tables_or_keys key ms = given_keys no_items (tables key) (get_member key ms) (tables_in key)
 
 table_keys : (key : List ℕ) (ms : Members) → of_keys (table_at key ms) ≡ true
@@ -128,7 +128,7 @@ type_at_keys ms = needed_keys (codes "type") _ (get_member (codes "type") ms) (�
 when_at_keys : (ms : Members) → of_keys (when_at ms) ≡ true
 when_at_keys ms = needed_keys (codes "when") _ (get_member (codes "when") ms) (λ d. found_keys (codes "when") (option_and_then when_word (as_str d)))
 
-each_keys : {A : Type 0} (read : Members → Result A LibFault) (ds : Items) → ((ms : Members) → of_keys (read ms) ≡ true) → of_keys (each read ds) ≡ true
+pub each_keys : {A : Type 0} (read : Members → Result A LibFault) (ds : Items) → ((ms : Members) → of_keys (read ms) ≡ true) → of_keys (each read ds) ≡ true
 each_keys read no_items h = refl
 each_keys read (item (table ms) ds) h = bind_keys (read ms) _ (h ms) (λ x. bind_keys (each read ds) _ (each_keys read ds h) (λ xs. refl))
 each_keys read (item (string s) ds) h = each_keys read ds h

@@ -1,4 +1,5 @@
 pub mod Chain
+pub mod Components
 pub mod Documents
 pub mod Depths
 pub mod Steps

@@ -2,8 +2,10 @@
 use Rattle.std.specs.Prelude.{ℕ, List, [], ◌++◌, codes}
 use Rattle.fc_types.specs.declared.fault.CheckFault.{CheckFault}
 use Rattle.fc_types.specs.declared.fault.CheckFault.TheVariants as check
+use Rattle.fc_library.specs.declared.fault.DocumentRule.{DocumentRule}
+use Rattle.fc_library.specs.declared.fault.DocumentRule.TheVariants as rules
 use Rattle.fc_library.specs.declared.fault.LibFault.{LibFault}
-use Rattle.fc_library.specs.declared.fault.LibFault.TheVariants.{NotToml, Unknown, Missing, WrongKind, Check, Memory}
+use Rattle.fc_library.specs.declared.fault.LibFault.TheVariants.{NotToml, Unknown, Missing, WrongKind, Check, Rule, Memory}
 
 -- the name of a fault of the check, in lower case
 abbrev pub check_word : CheckFault → List ℕ
@@ -16,6 +18,14 @@ check_word check.BadTarget = codes "badtarget"
 check_word check.UnknownClass = codes "unknownclass"
 check_word check.Memory = codes "memory"
 
+-- the name of a rule
+abbrev pub rule_word : DocumentRule → List ℕ
+rule_word rules.TooMany = codes "toomany"
+rule_word rules.Element = codes "element"
+rule_word rules.Name = codes "name"
+rule_word rules.Body = codes "body"
+rule_word rules.Addresses = codes "addresses"
+
 -- a line for a document of a kind, as `library`: the rule, and what it names
 abbrev pub line : List ℕ → List ℕ → List ℕ → List ℕ
 line kind rule name = codes "refused " ++ (kind ++ (codes " " ++ (rule ++ (name ++ codes "\n"))))
@@ -27,4 +37,5 @@ refusal_text kind (Unknown key) = line kind (codes "unknown ") key
 refusal_text kind (Missing key) = line kind (codes "missing ") key
 refusal_text kind (WrongKind key) = line kind (codes "wrongkind ") key
 refusal_text kind (Check fault) = line kind (codes "check ") (check_word fault)
+refusal_text kind (Rule rule) = line kind (codes "rule ") (rule_word rule)
 refusal_text kind Memory = []

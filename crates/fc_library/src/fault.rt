@@ -7,7 +7,22 @@ use fc_types::CheckFault;
 use std::alloc::{AllocError, Global};
 use thiserror::Error;
 
-/// Why a document means no library. A key is told by its name alone, as it stands in the document.
+/// The rules of a document that says more than a library, each with what breaks it.
+#[derive(Clone, Copy, Debug, PartialEq, Eq)]
+pub enum DocumentRule {
+    /// There is more of something than there may be.
+    TooMany,
+    /// An element is listed twice, or a change is of one that is not listed.
+    Element,
+    /// The name of a transaction is empty, that of another one too, or has another character than letters, digits and `_`.
+    Name,
+    /// A body is no change, or a transaction has none.
+    Body,
+    /// There are not as many addresses as elements.
+    Addresses,
+}
+
+/// Why a document means nothing. A key is told by its name alone, as it stands in the document.
 #[derive(Debug, Drop, Error)]
 pub enum LibFault {
     /// The bytes are not TOML.
@@ -25,6 +40,9 @@ pub enum LibFault {
     /// The classes and instances keep not every rule of a library. The fault is never `Memory`.
     #[error("the declaration is no library: {0:?}")]
     Check(CheckFault),
+    /// What the tables say does not keep this rule.
+    #[error("a rule of the document is not kept: {0:?}")]
+    Rule(DocumentRule),
     /// There was no memory.
     #[error("there is no memory")]
     Memory,
@@ -57,7 +75,7 @@ pub(crate) fn missing(alloc: Global, key: &str) -> LibFault
 }
 
 /// The fault of a value that may not stand at the key.
-pub(crate) fn wrong_kind(alloc: Global, key: &str) -> LibFault
+pub fn wrong_kind(alloc: Global, key: &str) -> LibFault
     ensures { result ≢ faults.Memory → result ≡ faults.WrongKind key.now }
 {
     match Text::from_str(alloc, key) {

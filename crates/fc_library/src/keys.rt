@@ -11,19 +11,14 @@ use std::alloc::Global;
 use toml::{Table, Value};
 
 /// The value at a key.
-pub(crate) fn find<'a>(table: &'a Table, key: &str) -> Option<&'a Value>
+pub fn find<'a>(table: &'a Table, key: &str) -> Option<&'a Value>
     ensures { option_map (λ v. view v.now) result ≡ get_member key.now (table_view table.now) }
 {
     table.get(key)
 }
 
 /// That each key of the table is one of its own or one of some more.
-pub(crate) fn only(
-    alloc: Global,
-    table: &Table,
-    own: &[&str],
-    more: &[&str],
-) -> Result<(), LibFault>
+pub fn only(alloc: Global, table: &Table, own: &[&str], more: &[&str]) -> Result<(), LibFault>
     ensures { Gives result (spec.only (map (λ key. key.now) own.now ++ map (λ key. key.now) more.now) (table_view table.now)) }
 {
     'members: for (name, _) in table.iter() {
@@ -53,7 +48,7 @@ fn is_among(name: &str, known: &[&str]) -> bool
 }
 
 /// The number at a key that has to be there, from `least` to `most`.
-pub(crate) fn number_at(
+pub fn number_at(
     alloc: Global,
     table: &Table,
     key: &str,
@@ -118,7 +113,7 @@ pub(crate) fn integer_or(
 }
 
 /// The text at a key that has to be there.
-pub(crate) fn text_at(alloc: Global, table: &Table, key: &str) -> Result<Text, LibFault>
+pub fn text_at(alloc: Global, table: &Table, key: &str) -> Result<Text, LibFault>
     ensures { Gives result (spec.text_at key.now (table_view table.now)) }
 {
     match find(table, key) {
@@ -129,12 +124,7 @@ pub(crate) fn text_at(alloc: Global, table: &Table, key: &str) -> Result<Text, L
 }
 
 /// The truth value at a key, or a default.
-pub(crate) fn truth_or(
-    alloc: Global,
-    table: &Table,
-    key: &str,
-    default: bool,
-) -> Result<bool, LibFault>
+pub fn truth_or(alloc: Global, table: &Table, key: &str, default: bool) -> Result<bool, LibFault>
     ensures { Gives result (spec.truth_or default key.now (table_view table.now)) }
 {
     match find(table, key) {
@@ -145,7 +135,7 @@ pub(crate) fn truth_or(
 }
 
 /// The array of tables at a key, or none of them.
-pub(crate) fn tables_or_none<'a>(
+pub fn tables_or_none<'a>(
     alloc: Global,
     table: &'a Table,
     key: &str,
@@ -166,11 +156,7 @@ pub(crate) fn tables_or_none<'a>(
 }
 
 /// The array of tables at a key that has to be there.
-pub(crate) fn tables_at<'a>(
-    alloc: Global,
-    table: &'a Table,
-    key: &str,
-) -> Result<&'a [Value], LibFault>
+pub fn tables_at<'a>(alloc: Global, table: &'a Table, key: &str) -> Result<&'a [Value], LibFault>
     ensures { GivesBy (λ values. items_view values.now) result (spec.tables_at key.now (table_view table.now)) }
 {
     match find(table, key) {

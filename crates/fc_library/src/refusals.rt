@@ -3,7 +3,7 @@ ghost use Rattle.std.specs.Prelude.{◌≡◌, ◌≢◌, IfOk};
 ghost use Rattle.fc_library.specs.Refusals as spec;
 ghost use Rattle.fc_library.specs.declared.fault.LibFault.TheVariants as faults;
 
-use crate::fault::LibFault;
+use crate::fault::{DocumentRule, LibFault};
 use fc_base::Memory;
 use fc_types::CheckFault;
 use std::alloc::Global;
@@ -20,6 +20,7 @@ pub fn refusal(alloc: Global, kind: &str, fault: &LibFault) -> Result<Vec<u8>, M
         LibFault::Missing(key) => line(alloc, kind, "missing ", key.as_str()),
         LibFault::WrongKind(key) => line(alloc, kind, "wrongkind ", key.as_str()),
         LibFault::Check(fault) => line(alloc, kind, "check ", check_word(*fault)),
+        LibFault::Rule(rule) => line(alloc, kind, "rule ", rule_word(*rule)),
         LibFault::Memory => Err(Memory),
     }
 }
@@ -35,6 +36,19 @@ fn line(alloc: Global, kind: &str, rule: &str, name: &str) -> Result<Vec<u8>, Me
     line.extend_from_slice(name.as_bytes())?;
     line.extend_from_slice(b"\n")?;
     Ok(line)
+}
+
+// The name of a rule.
+fn rule_word(rule: DocumentRule) -> &'static str
+    ensures { result.now ≡ spec.rule_word rule }
+{
+    match rule {
+        DocumentRule::TooMany => "toomany",
+        DocumentRule::Element => "element",
+        DocumentRule::Name => "name",
+        DocumentRule::Body => "body",
+        DocumentRule::Addresses => "addresses",
+    }
 }
 
 // The name of a fault of the check, in lower case.

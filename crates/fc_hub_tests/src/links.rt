@@ -1,5 +1,5 @@
 // The hub over a network that fails: what a connection tells is its own, and what the listener tells is the hub's.
-use fc_base::Trouble;
+use fc_base::{List, Text, Trouble};
 use fc_hub::{Hub, HubEvent, TcpHub};
 use std::alloc::Global;
 use std::cell::Cell;
@@ -34,6 +34,10 @@ struct Network {
     stuck: Cell<(Setting, u32)>,
     // whether the clock can't be read
     is_timeless: Cell<bool>,
+    // whether nobody answers who is dialled
+    refuses: Cell<bool>,
+    // how often it was dialled
+    dialled: Cell<u32>,
     milliseconds: Cell<u64>,
     asks: Cell<bool>,
     taken: Cell<u32>,
@@ -57,6 +61,8 @@ impl Network {
             silences: Cell::new(0),
             stuck: Cell::new((Setting::NoDelay, 0)),
             is_timeless: Cell::new(false),
+            refuses: Cell::new(false),
+            dialled: Cell::new(0),
             milliseconds: Cell::new(0),
             asks: Cell::new(false),
             taken: Cell::new(0),
@@ -100,6 +106,14 @@ impl<'a> Net for &'a Network {
     }
 
     fn connect(&self, _addr: SocketAddr) -> io::Result<Link<'a>> {
+        Ok(Link(self))
+    }
+
+    fn connect_timeout(&self, _addr: SocketAddr, _timeout: Duration) -> io::Result<Link<'a>> {
+        self.dialled.set(self.dialled.get().saturating_add(1));
+        if self.refuses.get() {
+            return Err(io::Error::from(ErrorKind::ConnectionRefused));
+        }
         Ok(Link(self))
     }
 }
@@ -389,5 +403,72 @@ fn a_lack_of_descriptors_counts_anew_where_one_is_served(rt: HostRuntime) -> Res
     hub.close(1)?;
     assert!(rt; event(&mut hub, 1) == Ok(None), "after the end");
     assert!(rt; event(&mut hub, 1) == Err(Trouble::Failed));
+    Ok(())
+}
+
+// A hub over the network that dials so many addresses, for so many connections, and has told its first moment.
+fn dialling(
+    alloc: Global,
+    network: &Network,
+    count: u32,
+    connections: u32,
+) -> Result<TcpHub<&Network>, Fail> {
+    let mut addresses = List::new(alloc);
+    for _ in 0..count {
+        addresses.push(Text::from_str(alloc, "127.0.0.1:1")?)?;
+    }
+    let mut hub = TcpHub::dial(alloc, network, addresses, connections)?;
+    match hub.next()? {
+        HubEvent::Moment(0) => Ok(hub),
+        _ => Err(Fail::from("no moment")),
+    }
+}
+
+#[test]
+fn who_does_not_answer_is_passed_over(rt: HostRuntime) -> Result<(), Fail> {
+    let network = Network::new(None, None);
+    network.refuses.set(true);
+    let mut hub = dialling(rt.alloc(), &network, 3, 7)?;
+    for dialled in [3, 6] {
+        assert!(rt; event(&mut hub, 1)?.is_none());
+        assert_eq!(rt; network.dialled.get(), dialled);
+    }
+    assert!(rt; event(&mut hub, 9)? == Some(HubEvent::Over));
+    assert_eq!(rt; network.dialled.get(), 7);
+    assert!(rt; event(&mut hub, 9)? == Some(HubEvent::Over));
+    let mut nobody = dialling(rt.alloc(), &network, 0, 7)?;
+    assert!(rt; nobody.next()? == HubEvent::Over);
+    Ok(())
+}
+
+#[test]
+fn a_dialled_connection_ends_by_itself(rt: HostRuntime) -> Result<(), Fail> {
+    let network = Network::new(None, Some(RESET));
+    let mut hub = dialling(rt.alloc(), &network, 2, 3)?;
+    for peer in [1, 2, 1] {
+        assert!(rt; event(&mut hub, 9)? == Some(HubEvent::Opened(peer)));
+        hub.send(peer, &[1])?;
+        assert!(rt; network.is_shut.get());
+        assert!(rt; event(&mut hub, 9)? == Some(HubEvent::Closed(peer)));
+    }
+    assert!(rt; event(&mut hub, 9)? == Some(HubEvent::Over));
+    Ok(())
+}
+
+#[test]
+fn a_dialled_connection_may_be_silent_for_two_seconds(rt: HostRuntime) -> Result<(), Fail> {
+    let network = Network::new(None, None);
+    let mut hub = dialling(rt.alloc(), &network, 2, 3)?;
+    assert!(rt; event(&mut hub, 9)? == Some(HubEvent::Opened(1)));
+    network.speaks.set(true);
+    assert!(rt; event(&mut hub, 9)?.is_some());
+    network.speaks.set(false);
+    assert!(rt; event(&mut hub, 9)? == Some(HubEvent::Closed(1)));
+    assert_eq!(rt; network.silences.get(), 2);
+    network.stuck.set((Setting::ReadTimeout, 1));
+    assert!(rt; event(&mut hub, 9)? == Some(HubEvent::Opened(1)));
+    network.is_timeless.set(true);
+    assert!(rt; hub.next() == Err(Trouble::Failed));
+    assert!(rt; hub.send(1, &[1]) == Err(Trouble::Failed));
     Ok(())
 }

@@ -1,0 +1,4 @@
+pub mod Acts
+pub mod Cut
+pub mod OpenPeers
+pub mod Streaming

@@ -1,0 +1,4 @@
+pub mod Acting
+pub mod Nexts
+pub mod OpenPeers
+pub mod Streams

@@ -1,0 +1,4 @@
+pub mod Beside
+pub mod Notices
+pub mod Performing
+pub mod Sending

@@ -1,0 +1,9 @@
+pub mod Leaves
+pub mod Commuting
+pub mod Along
+pub mod Over
+pub mod Standing
+pub mod Places
+pub mod Copies
+pub mod Records
+pub mod Entries
