@@ -5,7 +5,11 @@
 #[cfg(test)]
 mod deciding;
 #[cfg(test)]
+mod limits;
+#[cfg(test)]
 mod messages;
+#[cfg(test)]
+mod node;
 #[cfg(test)]
 mod plans;
 #[cfg(test)]

@@ -7,7 +7,7 @@ use std::test::Fail;
 // Goes through the lines of a case with a control element of its own. Gives the first line that is answered otherwise, with its answer. A line is
 // what comes or what is asked, and behind ` = ` the answer; one that begins with `--` says what those below it are about.
 fn first_wrong(alloc: Global, case: &str) -> Result<Option<String>, Fail> {
-    let mut trial = Trial::new(alloc)?;
+    let mut trial = Trial::new(alloc, 3)?;
     for line in case.split("\n") {
         if line.starts_with("--") || line.is_empty() {
             continue;

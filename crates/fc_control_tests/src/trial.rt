@@ -1,4 +1,8 @@
 // What the lines of a table do with a control element, and what it then sends or says.
+ghost use Rattle.std.specs.Prelude.{◌≡◌};
+ghost use Rattle.fc_protocol.specs.Collections.{among};
+ghost use Rattle.fc_jobs.specs.Sending.{are_apart as apart};
+
 use crate::messages::{change, held, message, record, response};
 use crate::told::{kept, refused, sent, unforgotten};
 use crate::words::{bytes_of, cut, element, transaction};
@@ -9,10 +13,11 @@ use fc_path::OperKind;
 use std::alloc::Global;
 use std::test::Fail;
 
-// A control element over the elements 1, 2 and 3, and what it has sent: to whom, and with which correlator, the newest last.
+// A control element over so many elements, from 1 on, and what it has sent: to whom, and with which correlator, the newest last.
 #[derive(Drop)]
 pub(crate) struct Trial {
     alloc: Global,
+    count: u32,
     master: Master,
     sent: Vec<(FeId, u64)>,
 }
@@ -38,16 +43,46 @@ fn parts(alloc: Global, words: &str) -> Result<List<(FeId, List<Change>)>, Fail>
     Ok(parts)
 }
 
+// The elements from 1 on, so many.
+fn first_elements(alloc: Global, count: u32) -> Result<Vec<FeId>, Fail> {
+    let mut elements = Vec::new(alloc);
+    for number in 0..count {
+        elements.push(FeId::of(number % 1_000 + 1).ok_or("an element")?)?;
+    }
+    Ok(elements)
+}
+
+// Whether no two elements are the same.
+fn are_apart(elements: &[FeId]) -> bool
+    ensures { result ≡ apart elements.now }
+{
+    match elements {
+        [] => true,
+        [first, rest @ ..] => !is_among(*first, rest) && are_apart(rest),
+    }
+}
+
+fn is_among(element: FeId, elements: &[FeId]) -> bool
+    ensures { result ≡ among element elements.now }
+{
+    match elements {
+        [] => false,
+        [first, rest @ ..] => element == *first || is_among(element, rest),
+    }
+}
+
 impl Trial {
-    pub(crate) fn new(alloc: Global) -> Result<Trial, Fail> {
+    pub(crate) fn new(alloc: Global, count: u32) -> Result<Trial, Fail> {
         let ce = CeId::of(0x4000_0001).ok_or("a control element")?;
         let epoch = Epoch::of(4, ce).ok_or("an epoch")?;
-        let first = FeId::of(1).ok_or("an element")?;
-        let second = FeId::of(2).ok_or("an element")?;
-        let third = FeId::of(3).ok_or("an element")?;
-        let master = Master::new(alloc, ce, &[first, second, third], epoch)?;
+        let elements = first_elements(alloc, count)?;
+        if !are_apart(elements.as_slice()) {
+            return Err(Fail::from("an element stands twice"));
+        }
+        let master = Master::new(alloc, ce, elements.as_slice(), epoch)?;
         Ok(Trial {
             alloc,
+            count,
             master,
             sent: Vec::new(alloc),
         })
@@ -111,7 +146,7 @@ impl Trial {
         }
     }
 
-    fn begun(&mut self, plan: TxnPlan) -> Result<String, Fail> {
+    pub(crate) fn begun(&mut self, plan: TxnPlan) -> Result<String, Fail> {
         match self.master.begin(plan) {
             Ok((_, outs)) => self.told(outs),
             Err(fault) => Ok(refused(self.alloc, fault)?),
@@ -133,10 +168,11 @@ impl Trial {
 
     // Each element asks for an association, takes the claim and answers the ask.
     fn ready(&mut self) -> Result<String, Fail> {
-        for participant in ["1", "2", "3"] {
-            self.heard("open", participant, "")?;
-            self.heard("code", participant, "00")?;
-            self.heard("held", participant, "00000401 -")?;
+        for number in 0..self.count {
+            let participant = format!(in self.alloc; "{}", u64::from(number) + 1)?;
+            self.heard("open", participant.as_str(), "")?;
+            self.heard("code", participant.as_str(), "00")?;
+            self.heard("held", participant.as_str(), "00000401 -")?;
         }
         let outs = self.master.step(CeIn::Moment(0))?;
         self.told(outs)

@@ -1,0 +1,3 @@
+pub mod Abiding
+pub mod Responses
+pub mod Runs

@@ -1,0 +1,12 @@
+pub mod Apart
+pub mod Bytes
+pub mod Framing
+pub mod Going
+pub mod Joined
+pub mod Keeping
+pub mod Pieces
+pub mod Planning
+pub mod Refusing
+pub mod Runs
+pub mod Sendings
+pub mod Serving

@@ -1,0 +1,5 @@
+pub mod Done
+pub mod Order
+pub mod Phases
+pub mod Sound
+pub mod State
