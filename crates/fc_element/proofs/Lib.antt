@@ -1,11 +1,10 @@
 pub mod Beats
 pub mod Configs
-pub mod Configured
+pub mod Configuring
 pub mod Fitting
-pub mod Ledgered
 pub mod Openings
-pub mod Recorded
 pub mod Runs
+pub mod Said
 pub mod Sent
 pub mod Telling
-pub mod Unheld
+pub mod Undoing

@@ -8,8 +8,6 @@ mod library;
 #[cfg(test)]
 mod many;
 #[cfg(test)]
-mod memory;
-#[cfg(test)]
 mod tables;
 #[cfg(test)]
 mod trial;

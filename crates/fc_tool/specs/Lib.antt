@@ -1,6 +1,8 @@
 pub mod Acting
 pub mod ElementNode
 pub mod ElementRun
+pub mod Endings
+pub mod Limits
 pub mod Make
 pub mod Nexts
 pub mod OpenPeers
@@ -9,5 +11,6 @@ pub mod Run
 pub mod Runs
 pub mod RunsAlike
 pub mod Show
+pub mod Stops
 pub mod Streams
 pub mod Text

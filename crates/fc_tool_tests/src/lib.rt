@@ -2,8 +2,6 @@
 #![tactic(auto)]
 
 #[cfg(test)]
-mod controlling;
-#[cfg(test)]
 mod limits;
 #[cfg(test)]
 mod making;

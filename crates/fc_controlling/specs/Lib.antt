@@ -1,5 +1,0 @@
-pub mod ControlRun
-pub mod Meanings
-pub mod Outcomes
-pub mod Runs
-pub mod RunsAlike

@@ -1,4 +1,0 @@
-pub mod Endings
-pub mod Limits
-pub mod Looks
-pub mod Stops
