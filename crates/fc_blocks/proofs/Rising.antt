@@ -1,5 +1,5 @@
 -- Instances that rise are those of any order, put in their order.
-use Rattle.std.proofs.Common.{◌≡◌, ℕ, zero, suc, ◌+◌, ◌<◌, ◌==◌, ◌&&◌, ◌||◌, nat_lt, Bool, true, false, if◌then◌else◌, List, [], ◌∷◌, ◌++◌, refl, sym, ap, subst, ◌∙◌, arith}
+use Rattle.std.proofs.Common.{◌≡◌, ℕ, zero, suc, ◌+◌, ◌<◌, ◌==◌, ◌&&◌, ◌||◌, nat_lt, Bool, true, false, if◌then◌else◌, List, [], ◌∷◌, ◌++◌, Result, Ok, Err, refl, sym, ap, subst, ◌∙◌, arith}
 use Rattle.std.proofs.lemmas.Bool.Decides.{nat_tests}
 use Rattle.std.proofs.lemmas.List.Sums.{sum_by-cons}
 use Rattle.std.proofs.lemmas.Map.Keys.{sorted_head, sorted_tail}
@@ -7,15 +7,15 @@ use Rattle.std.proofs.lemmas.List.Sorted.{sum_by-IsPermutation, IsPermutation-ap
 use Rattle.std.specs.List.{AllByRecursion, sum_by}
 use Rattle.std.specs.List.Sorted.{IsPermutation}
 use Rattle.std.specs.Ordering.{nat_cmp}
+use Rattle.std.specs.Prelude.{IfOk}
 use Rattle.std.specs.declared.cmp.Ordering.{Ordering}
 use Rattle.std.specs.declared.cmp.Ordering.TheVariants.{Less, Equal, Greater}
 use Rattle.fc_types.specs.BuiltIn.{built_in_instances}
 use Rattle.fc_types.specs.Libraries.{AreRising, pair_cmp, same_instance}
 use Rattle.fc_types.specs.declared.class.Class.{Class}
 use Rattle.fc_lfbs.specs.BuiltIns.{built_in}
-use Rattle.fc_lfbs.specs.LiveValues.{Told, Txn}
 use Rattle.fc_store.specs.Stores.{opened}
-use Rattle.fc_blocks.specs.Opening.{goes_before, opened_store, placed, rising, told_first, told_with, with_own}
+use Rattle.fc_blocks.specs.Opening.{goes_before, opened_store, placed, rising, with_own}
 
 abbrev Pair : Type 0
 Pair = ℕ × ℕ
@@ -199,24 +199,16 @@ own_is instances pairs m h = sym (rising_is pairs h) ∙ sym (rising_same (insta
 pub own_same : (one other : List Pair) → IsPermutation one other → with_own one ≡ with_own other
 own_same one other m = rising_same (one ++ built_in_instances) (other ++ built_in_instances) (IsPermutation-append_left built_in_instances one other m)
 
--- an element tells and holds the same in whatever order the instances are given
-pub told_same : (id ce : ℕ) (one other : List Pair) → IsPermutation one other → told_first id ce one ≡ told_first id ce other
-told_same id ce one other m = ap (told_with id ce) (own_same one other m)
-
+-- an element holds the same in whatever order the instances are given
 pub store_same : (library : List Class) (one other : List Pair) → IsPermutation one other → opened_store library one ≡ opened_store library other
 store_same library one other m = ap (opened (library ++ built_in)) (own_same one other m)
 
 -- what a call makes of a library and instances
-pub told_made : (id ce : ℕ) (instances pairs : List Pair) → IsPermutation (instances ++ built_in_instances) pairs → AreRising pairs → told_with id ce pairs ≡ told_first id ce instances
-told_made id ce instances pairs m h = ap (told_with id ce) (own_is instances pairs m h)
-
 pub store_made : (library all : List Class) (instances pairs : List Pair) → all ≡ library ++ built_in → IsPermutation (instances ++ built_in_instances) pairs → AreRising pairs
     → opened all pairs ≡ opened_store library instances
 store_made library all instances pairs same m h = ap (λ (l : List Class). opened l pairs) same ∙ ap (opened (library ++ built_in)) (own_is instances pairs m h)
 
-pub told_by : (id ce n : ℕ) (instances pairs copied : List Pair) (txns : List Txn) → n ≡ ce → copied ≡ pairs → txns ≡ [] → IsPermutation (instances ++ built_in_instances) pairs → AreRising pairs
-    → ◌≡◌ {A = Told} (record { id = id; instances = copied; ce = n; last_ce = 0; epoch = 0; master = 0; transactions = txns }) (told_first id ce instances)
-told_by id ce n instances pairs copied txns e f g m h =
-    let same : ◌≡◌ {A = Told} (record { id = id; instances = copied; ce = n; last_ce = 0; epoch = 0; master = 0; transactions = txns }) (told_with id ce pairs) =
-    λ i. record { id = id; instances = f i; ce = e i; last_ce = 0; epoch = 0; master = 0; transactions = g i } in
-    same ∙ told_made id ce instances pairs m h
+-- what a call gives is also what this is
+pub given_is : {A E : Type 0} (r : Result A E) (a b : A) → a ≡ b → IfOk r (λ x. x ≡ a) → IfOk r (λ x. x ≡ b)
+given_is (Ok x) a b e h = h ∙ e
+given_is (Err fault) a b e h = tt

@@ -1,8 +1,7 @@
--- What an element tells and holds when it was just made: RFC 5812, section 3.2, on the components of its LFB instances; which classes it has of
+-- What an element holds when it was just made: RFC 5812, section 3.2, on the components of its LFB instances; which classes it has of
 -- itself is this profile's own.
 use Rattle.std.specs.Prelude.{ℕ, ◌==◌, ◌&&◌, ◌||◌, nat_lt, Bool, List, [], ◌∷◌, ◌++◌, if◌then◌else◌}
 use Rattle.fc_lfbs.specs.BuiltIns.{built_in}
-use Rattle.fc_lfbs.specs.LiveValues.{Told}
 use Rattle.fc_store.specs.Stores.{Stored, opened}
 use Rattle.fc_types.specs.BuiltIn.{built_in_instances}
 use Rattle.fc_types.specs.declared.class.Class.{Class}
@@ -24,14 +23,6 @@ rising (p ∷ ps) = placed p (rising ps)
 -- the instances with instance 1 of each class that an element has of itself
 abbrev pub with_own : List (ℕ × ℕ) → List (ℕ × ℕ)
 with_own instances = rising (instances ++ built_in_instances)
-
--- an element with these instances, without a master in any epoch, which is to be configured by one control element
-abbrev pub told_with : ℕ → ℕ → List (ℕ × ℕ) → Told
-told_with id ce instances =
-    record { id = id; instances = instances; ce = ce; last_ce = 0; epoch = 0; master = 0; transactions = [] }
-
-abbrev pub told_first : ℕ → ℕ → List (ℕ × ℕ) → Told
-told_first id ce instances = told_with id ce (with_own instances)
 
 -- with the classes that it has of itself, each component having its opening value
 abbrev pub opened_store : List Class → List (ℕ × ℕ) → Stored

@@ -8,6 +8,6 @@ mod query;
 mod settings;
 
 pub use laws::properties_stand_in_their_leaves;
-pub use opening::open_blocks;
+pub use opening::open_store;
 pub use query::{foreign_selects, told_selects};
 pub use settings::{HeartbeatSettings, settings_in};

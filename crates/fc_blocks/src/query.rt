@@ -7,7 +7,7 @@ ghost use Rattle.fc_blocks.specs.Queries as spec;
 
 use fc_base::{Code, List, Memory, OpFault};
 use fc_events::Subscriptions;
-use fc_lfbs::LiveState;
+use fc_lfbs::Live;
 use fc_ops::{Prop, Question, query, questions_of};
 use fc_path::{Select, Spot};
 use fc_reply::{answered_selects, each_gets};
@@ -15,13 +15,13 @@ use fc_store::Store;
 use std::alloc::Global;
 
 // What a GET-PROP of a spot is answered with.
-fn prop_at(
-    live: &LiveState,
+fn prop_at<L: Live>(
+    live: &L,
     store: &Store,
     subscriptions: &Subscriptions,
     spot: &Spot,
 ) -> Result<Prop, Memory>
-    ensures { IfOk result (λ prop. prop ≡ spec.prop_at live.now store.now subscriptions.now spot.now) }
+    ensures { IfOk result (λ prop. prop ≡ spec.prop_at (L.told live.now) store.now subscriptions.now spot.now) }
 {
     match subscriptions.get_prop(store, live, spot) {
         Ok(ilvs) => Ok(Prop::Held(ilvs)),
@@ -33,14 +33,14 @@ fn prop_at(
 }
 
 // Appends what a leaf is answered with, where it asks for properties.
-fn push_prop(
+fn push_prop<L: Live>(
     props: &mut Vec<Prop>,
-    live: &LiveState,
+    live: &L,
     store: &Store,
     subscriptions: &Subscriptions,
     question: &Question<'_>,
 ) -> Result<(), Memory>
-    ensures { OnOk result (props.new.items ≡ props.old.items ++ spec.asked_props live.now store.now subscriptions.now question.now) }
+    ensures { OnOk result (props.new.items ≡ props.old.items ++ spec.asked_props (L.told live.now) store.now subscriptions.now question.now) }
 {
     if question.takes_prop() {
         let spot = question.spot(*props.allocator())?;
@@ -51,14 +51,14 @@ fn push_prop(
 }
 
 // What each GET-PROP leaf of a query is answered with, in their order.
-fn props_of(
+fn props_of<L: Live>(
     alloc: Global,
-    live: &LiveState,
+    live: &L,
     store: &Store,
     subscriptions: &Subscriptions,
     selects: &[Select],
 ) -> Result<Vec<Prop>, Memory>
-    ensures { IfOk result (λ props. props.items ≡ spec.props_of live.now store.now subscriptions.now (questions selects.now)) }
+    ensures { IfOk result (λ props. props.items ≡ spec.props_of (L.told live.now) store.now subscriptions.now (questions selects.now)) }
 {
     let questions = questions_of(alloc, selects)?;
     let mut props = Vec::new(alloc);
@@ -70,16 +70,16 @@ fn props_of(
 
 /// The selects of the answer to a query for this element: of a GET leaf what the element tells of itself and what its store holds, and of
 /// a GET-PROP leaf the properties, by what is registered.
-pub fn told_selects(
+pub fn told_selects<L: Live>(
     alloc: Global,
-    live: &LiveState,
+    live: &L,
     store: &Store,
     subscriptions: &Subscriptions,
     selects: &[Select],
 ) -> Result<List<Select>, Memory>
     requires proper { ProperSelects 4 selects.now }
     requires fits { results_fit selects.now ≡ true }
-    ensures exact { IfOk result (λ others. others ≡ spec.told_selects live.now store.now subscriptions.now selects.now) }
+    ensures exact { IfOk result (λ others. others ≡ spec.told_selects (L.told live.now) store.now subscriptions.now selects.now) }
     ensures proper { IfOk result (λ others. ProperSelects 20 others) }
 {
     let props = props_of(alloc, live, store, subscriptions, selects)?;

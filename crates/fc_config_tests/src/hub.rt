@@ -4,7 +4,7 @@ ghost use Rattle.std.specs.List.{list_all};
 ghost use Rattle.fc_hub.specs.Hubs.{is_given};
 
 use fc_base::{SureSink, SureSource};
-use fc_hub::{Act, HubEvent, SureHub};
+use fc_hub::{Act, HubEvent, SureHub, SureRounds};
 use fc_tool::run;
 use std::alloc::{AllocError, Global};
 use std::test::Fail;
@@ -54,7 +54,15 @@ fn ran(
         return Err(Fail::from("no hub tells these events"));
     }
     let mut hub = SureHub::new(alloc, events);
-    let status = run(alloc, words.as_slice(), &mut input, &mut out, &mut hub);
+    let mut rounds = SureRounds::new(1);
+    let status = run(
+        alloc,
+        words.as_slice(),
+        &mut input,
+        &mut out,
+        &mut hub,
+        &mut rounds,
+    );
     Ok((status, Vec::from_slice(alloc, out.bytes())?, hub))
 }
 

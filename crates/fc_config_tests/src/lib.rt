@@ -5,12 +5,20 @@
 #[cfg(test)]
 mod associations;
 #[cfg(test)]
+mod claims;
+#[cfg(test)]
 mod configs;
 #[cfg(test)]
 mod hub;
 #[cfg(test)]
 mod lines;
 #[cfg(test)]
+mod phases;
+#[cfg(test)]
 mod queries;
+#[cfg(test)]
+mod scopes;
+#[cfg(test)]
+mod short;
 #[cfg(test)]
 mod tables;

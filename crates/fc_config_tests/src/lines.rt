@@ -1,5 +1,6 @@
 // The lines of a table: what comes to an element, as events of a hub, and what it sends, as words.
 use crate::hub::written;
+use crate::short::spelled;
 use fc_base::{Octets, push_hex};
 use fc_hub::{Act, HubEvent};
 use std::alloc::Global;
@@ -34,7 +35,7 @@ fn bytes_of(alloc: Global, digits: &str) -> Result<Vec<u8>, Fail> {
     Ok(bytes)
 }
 
-// The line of a message: its name and flags, and the IDs of its sender and of whom it is for, where they are not these.
+// The line of a message: its name and flags, the IDs of its sender and of whom it is for, and its correlator, where they are not these.
 fn head(alloc: Global, words: &str) -> Result<String, Fail> {
     let (name, words) = cut(words, " ");
     let (flags, words) = cut(words, " ");
@@ -43,8 +44,14 @@ fn head(alloc: Global, words: &str) -> Result<String, Fail> {
     } else {
         words
     };
-    let (from, to) = cut(ids, " ");
-    Ok(format!(in alloc; "{name} from={from} to={to} corr=0000000000000009 flags={flags}\n")?)
+    let (from, words) = cut(ids, " ");
+    let (to, words) = cut(words, " ");
+    let corr = if words.is_empty() {
+        "0000000000000009"
+    } else {
+        words
+    };
+    Ok(format!(in alloc; "{name} from={from} to={to} corr={corr} flags={flags}\n")?)
 }
 
 // How far the lines of a body are indented, by their first words.
@@ -113,7 +120,8 @@ pub(crate) fn push_events(
         "close" => events.push(HubEvent::Closed(number.parse::<u32>()?))?,
         "moment" => events.push(HubEvent::Moment(number.parse::<u64>()?))?,
         _ => {
-            let bytes = message_bytes(alloc, line)?;
+            let line = spelled(alloc, line)?;
+            let bytes = message_bytes(alloc, line.as_str())?;
             push_pieces(alloc, events, bytes.as_slice(), piece)?;
         }
     }

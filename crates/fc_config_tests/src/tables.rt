@@ -7,7 +7,11 @@ use std::test::Fail;
 
 // Whether a line is an event: others are remarks, which begin with `--`, and the lines of the report.
 fn is_event(line: &str) -> bool {
-    !line.starts_with("--") && !line.starts_with("element ") && !line.starts_with("config ")
+    let (word, _) = cut(line, " ");
+    match word {
+        "--" | "element" | "floor" | "record" | "config" => false,
+        _ => true,
+    }
 }
 
 // The events of the lines of a case behind the opening of connection 1, and how many there are up to the end of each line.

@@ -6,10 +6,10 @@ use Rattle.std.proofs.lemmas.List.{take_more, take_all, length-map}
 use Rattle.std.specs.FinMap.{entries}
 use Rattle.fc_assoc.specs.Associations.{AssociationMap}
 use Rattle.fc_assoc.specs.declared.heard.Heard.{Heard}
-use Rattle.fc_element.specs.declared.input.Out.{Out}
+use Rattle.fc_performing.specs.Sending.{out}
+use Rattle.fc_performing.specs.declared.out.Out.{Out}
 use Rattle.fc_element.specs.ElementMachine.{beats_of, heartbeat_of}
 use Rattle.fc_element.specs.Notices.{peers_of}
-use Rattle.fc_element.specs.Sending.{out}
 
 abbrev beat : ℕ → ℕ × Heard → Out
 beat id pair = out pair.1.peer (heartbeat_of id pair.0)

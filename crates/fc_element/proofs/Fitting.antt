@@ -1,5 +1,5 @@
 -- What an element sends can be encoded.
-use Rattle.std.proofs.Common.{◌≡◌, ℕ, ◌&&◌, ◌==◌, nat_lt, Bool, true, false, cond, if◌then◌else◌, List, [], ◌∷◌, length, map, refl, subst, sym, ◌∙◌, Result, Ok, Err}
+use Rattle.std.proofs.Common.{◌≡◌, ℕ, ◌&&◌, ◌==◌, nat_lt, Bool, true, false, cond, if◌then◌else◌, List, [], ◌∷◌, length, map, refl, subst, sym, ◌∙◌, Option, Some, Result, Ok, Err}
 use Rattle.std.specs.List.{AllByRecursion, list_all}
 use Rattle.std.specs.Prelude.{IfOk}
 use Rattle.std.specs.FinMap.{entries, remove}
@@ -22,12 +22,11 @@ use Rattle.fc_msg.specs.declared.message.MsgBody.{MsgBody}
 use Rattle.fc_msg.specs.declared.message.MsgBody.TheVariants.{Setup, SetupResponse, Teardown, Config, ConfigResponse, Query, QueryResponse, Event, Heartbeat}
 use Rattle.fc_element.specs.declared.input.ElIn.{ElIn}
 use Rattle.fc_element.specs.declared.input.ElIn.TheVariants.{Opened, Arrived, Closed, Moment}
-use Rattle.fc_element.specs.declared.input.Out.{Out}
-use Rattle.fc_element.specs.ElementState.{ElementState}
-use Rattle.fc_element.specs.ElementMachine.{CanBeSent, IsProperIn, Turn, answer_to, answer_with, beaten, beating, beats_of, by_order, done_by, down_outs, evaluated, hearing, heartbeat_of, is_associated, is_ce, is_due, is_own, moved_on, on_body, on_message, on_moment, query_answer, setup_of, step, turn, watched}
-use Rattle.fc_element.specs.Notices.{route}
-use Rattle.fc_element.specs.Performing.{Performed}
-use Rattle.fc_element.specs.Sending.{out}
+use Rattle.fc_performing.specs.Notices.{route}
+use Rattle.fc_performing.specs.Sending.{CanBeSent, IsAnswer, out}
+use Rattle.fc_performing.specs.declared.out.Out.{Out}
+use Rattle.fc_element.specs.ElementState.{ElementState, told_of}
+use Rattle.fc_element.specs.ElementMachine.{IsProperIn, Turn, answer_to, answer_with, beaten, beating, beats_of, by_order, down_outs, hearing, heartbeat_of, id_of, is_associated, is_ce, is_due, is_own, ledger_of, moved_on, on_body, on_message, on_moment, query_answer, setup_of, step, turn, watched}
 use Rattle.fc_element.proofs.Configs.{config_all}
 use Rattle.fc_element.proofs.Telling.{all_append, downs_all, notices_all}
 use Rattle.fc_blocks.proofs.Asked.{all_asked}
@@ -55,8 +54,8 @@ beats_fit id (pair ∷ pairs) = (heartbeat_fits id pair.0, beats_fit id pairs)
 beating_fits : (s : ElementState) → Fit (beating s)
 beating_fits s = by_due (is_due s)
   where
-    by_due : (b : Bool) → Fit (if b then turn (beaten s) (beats_of s.told.id s.associations) else turn s [])
-    by_due true = beats_fit s.told.id (entries s.associations)
+    by_due : (b : Bool) → Fit (if b then turn (beaten s) (beats_of (id_of s) s.associations) else turn s [])
+    by_due true = beats_fit (id_of s) (entries s.associations)
     by_due false = tt
 
 answered_fits : (b : Bool) (peer : ℕ) (m : Message) → AllByRecursion CanBeSent (if b then out peer (answer_to m) ∷ [] else [])
@@ -76,17 +75,17 @@ unfolding message_fits
 query_fits m selects = refl
 
 told_fits : (s : ElementState) (m : Message) (selects : List Select) → IsProper m → m.body ≡ Query selects → results_fit selects ≡ true
-    → message_fits (answer_with m (QueryResponse (told_selects s.told s.store s.subscriptions selects))) ≡ true
+    → message_fits (answer_with m (QueryResponse (told_selects (told_value (told_of s.transactions)) (ledger_of s).store (ledger_of s).subscriptions selects))) ≡ true
 told_fits s m selects p b f =
-    query_fits m (told_selects s.told s.store s.subscriptions selects)
-    ∙ answers_fit selects (contents_of (told_value s.told) s.store (props_of s.told s.store s.subscriptions (questions selects)) (questions selects)) (is_asked m selects p b) f
-    (query_counts (told_value s.told) s.store (props_of s.told s.store s.subscriptions (questions selects)) selects)
+    query_fits m (told_selects (told_value (told_of s.transactions)) (ledger_of s).store (ledger_of s).subscriptions selects)
+    ∙ answers_fit selects (contents_of (told_value (told_of s.transactions)) (ledger_of s).store (props_of (told_value (told_of s.transactions)) (ledger_of s).store (ledger_of s).subscriptions (questions selects)) (questions selects)) (is_asked m selects p b) f
+    (query_counts (told_value (told_of s.transactions)) (ledger_of s).store (props_of (told_value (told_of s.transactions)) (ledger_of s).store (ledger_of s).subscriptions (questions selects)) selects)
 
 foreign_fits : (m : Message) (selects : List Select) → results_fit selects ≡ true → message_fits (answer_with m (QueryResponse (foreign_selects selects))) ≡ true
 foreign_fits m selects f = query_fits m (foreign_selects selects) ∙ answered_fit selects (each_gets 4 selects) f
 
 answer_is : (s : ElementState) (m : Message) (selects : List Select) (own : Bool) → IsProper m → m.body ≡ Query selects → results_fit selects ≡ true
-    → message_fits (answer_with m (QueryResponse (cond own (told_selects s.told s.store s.subscriptions selects) (foreign_selects selects)))) ≡ true
+    → message_fits (answer_with m (QueryResponse (cond own (told_selects (told_value (told_of s.transactions)) (ledger_of s).store (ledger_of s).subscriptions selects) (foreign_selects selects)))) ≡ true
 answer_is s m selects true p b f = told_fits s m selects p b f
 answer_is s m selects false p b f = foreign_fits m selects f
 
@@ -97,11 +96,13 @@ query_taken_fits s peer m selects true false p b f = tt
 query_taken_fits s peer m selects false c p b f = tt
 
 -- ---- Configs
-config_fits : (s : ElementState) (peer : ℕ) (m : Message) (selects : List Select) (a : Bool) → is_associated s m ≡ a → Fit (cond a (by_order s peer m selects) (turn s []))
-config_fits s peer m selects a known =
-    config_all CanBeSent s peer m selects (λ codes r known fits e. reply_fits m r selects codes fits e)
-    (λ known first. let p : Performed = done_by m selects s.store s.subscriptions in
-    notices_all CanBeSent p.store.library (route s.told.id s.told.ce peer) (evaluated p).1 (λ n front back e fits. fits))
+answer_in : (o : Option Message) (r : Message) → IsAnswer o → o ≡ Some r → message_fits r ≡ true
+answer_in o r k e = (subst IsAnswer e k).1
+
+config_fits : (s : ElementState) → IsAnswer s.transactions.kept → (peer : ℕ) (m : Message) (selects : List Select) (a : Bool) → is_associated s m ≡ a → Fit (cond a (by_order s peer m selects) (turn s []))
+config_fits s k peer m selects a known =
+    config_all CanBeSent s peer m selects (λ codes r known fits e. reply_fits m r selects codes fits e) (λ r known own e. answer_in s.transactions.kept r k e)
+    (λ d known own e. notices_all CanBeSent d.ledger.store.library (route (id_of s) m.source peer) d.notices (λ n front back f fits. fits))
     a known
 
 -- ---- associations that end
@@ -111,33 +112,33 @@ downs_fit s remaining = downs_all CanBeSent s remaining (λ ce h n front back e 
 moment_fits : (s : ElementState) → Fit (on_moment s)
 moment_fits s = all_append CanBeSent (down_outs s (watched s).associations) (beating (watched s)).outs (downs_fit s (watched s).associations) (beating_fits (watched s))
 
-body_fits : (s : ElementState) (peer : ℕ) (m : Message) → IsProper m → (body : MsgBody) → m.body ≡ body → Fit (on_body s peer m body)
-body_fits s peer m p (Setup selects) e = tt
-body_fits s peer m p (SetupResponse result) e = entered_fits (is_own s m && result == 0) _ _
-body_fits s peer m p (Teardown reason) e = downs_fit s (remove s.associations m.source)
-body_fits s peer m p (Config selects) e = config_fits s peer m selects (is_associated s m) refl
-body_fits s peer m p (ConfigResponse selects) e = tt
-body_fits s peer m p (Query selects) e = query_taken_fits s peer m selects (is_associated s m) (results_fit selects) p e refl
-body_fits s peer m p (QueryResponse selects) e = tt
-body_fits s peer m p (Event selects) e = tt
-body_fits s peer m p Heartbeat e = answered_fits (is_associated s m && m.flags.ack == 3) peer m
+body_fits : (s : ElementState) → IsAnswer s.transactions.kept → (peer : ℕ) (m : Message) → IsProper m → (body : MsgBody) → m.body ≡ body → Fit (on_body s peer m body)
+body_fits s k peer m p (Setup selects) e = tt
+body_fits s k peer m p (SetupResponse result) e = entered_fits (is_own s m && result == 0) _ _
+body_fits s k peer m p (Teardown reason) e = downs_fit s (remove s.associations m.source)
+body_fits s k peer m p (Config selects) e = config_fits s k peer m selects (is_associated s m) refl
+body_fits s k peer m p (ConfigResponse selects) e = tt
+body_fits s k peer m p (Query selects) e = query_taken_fits s peer m selects (is_associated s m) (results_fit selects) p e refl
+body_fits s k peer m p (QueryResponse selects) e = tt
+body_fits s k peer m p (Event selects) e = tt
+body_fits s k peer m p Heartbeat e = answered_fits (is_associated s m && m.flags.ack == 3) peer m
 
-message_taken_fits : (s : ElementState) (peer : ℕ) (m : Message) → IsProper m → Fit (on_message s peer m)
-message_taken_fits s peer m p = by_sender (is_ce m.source)
+message_taken_fits : (s : ElementState) → IsAnswer s.transactions.kept → (peer : ℕ) (m : Message) → IsProper m → Fit (on_message s peer m)
+message_taken_fits s k peer m p = by_sender (is_ce m.source)
   where
     by_sender : (b : Bool) → Fit (if b then on_body s peer m m.body else turn s [])
-    by_sender true = body_fits s peer m p m.body refl
+    by_sender true = body_fits s k peer m p m.body refl
     by_sender false = tt
 
 -- whatever comes that the grammar has, all that the element sends can be encoded
-pub step_fits : (s : ElementState) (input : ElIn) → IsProperIn input → Fit (step s input)
+pub step_fits : (s : ElementState) → IsAnswer s.transactions.kept → (input : ElIn) → IsProperIn input → Fit (step s input)
 unfolding step
-step_fits s (Opened peer) p = (setup_fits s.told.id, tt)
-step_fits s (Arrived peer m) p = message_taken_fits s peer m p
-step_fits s (Closed peer) p = tt
-step_fits s (Moment moment) p = moment_fits (moved_on s moment)
+step_fits s k (Opened peer) p = (setup_fits (id_of s), tt)
+step_fits s k (Arrived peer m) p = message_taken_fits s k peer m p
+step_fits s k (Closed peer) p = tt
+step_fits s k (Moment moment) p = moment_fits (moved_on s moment)
 
 -- so can what a call gives that gives what the machine sends
-pub given_fits : (s : ElementState) (input : ElIn) (r : Result (List Out) Memory) → IsProperIn input → IfOk r (λ outs. outs ≡ (step s input).outs) → IfOk r (λ outs. AllByRecursion CanBeSent outs)
-given_fits s input (Ok outs) p same = subst (AllByRecursion CanBeSent) (sym same) (step_fits s input p)
-given_fits s input (Err e) p same = tt
+pub given_fits : (s : ElementState) → IsAnswer s.transactions.kept → (input : ElIn) (r : Result (List Out) Memory) → IsProperIn input → IfOk r (λ outs. outs ≡ (step s input).outs) → IfOk r (λ outs. AllByRecursion CanBeSent outs)
+given_fits s k input (Ok outs) p same = subst (AllByRecursion CanBeSent) (sym same) (step_fits s k input p)
+given_fits s k input (Err e) p same = tt

@@ -1,10 +1,11 @@
 pub mod Beats
 pub mod Configs
-pub mod Configuring
+pub mod Configured
 pub mod Fitting
+pub mod Ledgered
 pub mod Openings
+pub mod Recorded
 pub mod Runs
-pub mod Said
 pub mod Sent
 pub mod Telling
-pub mod Undoing
+pub mod Unheld

@@ -16,13 +16,13 @@ use Rattle.fc_msg.specs.declared.message.MsgBody.TheVariants.{Setup, SetupRespon
 use Rattle.fc_element.specs.declared.input.ElIn.{ElIn}
 use Rattle.fc_element.specs.declared.input.ElIn.TheVariants.{Opened, Arrived, Closed, Moment}
 use Rattle.fc_element.specs.ElementState.{ElementState, opened}
-use Rattle.fc_events.specs.declared.subscriptions.Subscription.{Subscription}
 use Rattle.fc_path.specs.Results.{results_fit}
 use Rattle.fc_path.specs.declared.oper.Select.{Select}
-use Rattle.fc_store.specs.Stores.{Stored}
+use Rattle.fc_transactions.specs.Order.{configured}
+use Rattle.fc_transactions.specs.State.{TransactionState}
 use Rattle.fc_types.specs.declared.class.Class.{Class}
-use Rattle.fc_element.specs.ElementMachine.{turn, step, is_ce, is_own, is_associated, on_body, by_order, unclaimed, all_get, done_by, evaluated, executing, hearing, renewing, query_outs, with_associations, with_blocks, moved_on, watched, is_due, beating, beaten, beats_of}
-use Rattle.fc_element.specs.Performing.{Performed}
+use Rattle.fc_element.specs.ElementMachine.{turn, step, is_ce, is_own, is_associated, on_body, by_order, all_get, hearing, hearing_if, id_of, query_outs, settled_in, taking, with_associations, with_transactions, moved_on, watched, is_due, beating, beaten, beats_of}
+use Rattle.fc_element.proofs.Configured.{IsResponse, configured_id, configured_responds}
 use Rattle.fc_blocks.specs.Settings.{ce_policy, ce_dead}
 use Rattle.fc_element.specs.Runs.{after, IsAssociated, IsNoMoment, WasAccepted, WasHeard, WasLast}
 
@@ -53,16 +53,16 @@ kept_heard (Some g) now dead h e = by_past (is_past g now dead) refl e
 
 -- what a moment leaves of the associations
 abbrev left : ElementState → ℕ → AssociationMap
-left s moment = still_heard s.associations (max s.clock moment) (ce_dead s.store)
+left s moment = still_heard s.associations (max s.clock moment) (ce_dead (settled_in s))
 
-heard_still : (s : ElementState) (moment who : ℕ) (h : Heard) → get (left s moment) who ≡ Some h → (get s.associations who ≡ Some h) × (max s.clock moment ≤ h.last + ce_dead s.store)
+heard_still : (s : ElementState) (moment who : ℕ) (h : Heard) → get (left s moment) who ≡ Some h → (get s.associations who ≡ Some h) × (max s.clock moment ≤ h.last + ce_dead (settled_in s))
 heard_still s moment who h e =
-    kept_heard (get s.associations who) (max s.clock moment) (ce_dead s.store) h
-    (sym (get-retain_keys s.associations (λ ce. not (is_silent (get s.associations ce) (max s.clock moment) (ce_dead s.store))) who alike) ∙ e)
+    kept_heard (get s.associations who) (max s.clock moment) (ce_dead (settled_in s)) h
+    (sym (get-retain_keys s.associations (λ ce. not (is_silent (get s.associations ce) (max s.clock moment) (ce_dead (settled_in s)))) who alike) ∙ e)
   where
     alike : (x : ℕ) → nat_cmp who x ≡ Equal
-        → not (is_silent (get s.associations x) (max s.clock moment) (ce_dead s.store)) ≡ not (is_silent (get s.associations who) (max s.clock moment) (ce_dead s.store))
-    alike x f = ap (λ ce. not (is_silent (get s.associations ce) (max s.clock moment) (ce_dead s.store))) (sym (same_number who x f))
+        → not (is_silent (get s.associations x) (max s.clock moment) (ce_dead (settled_in s))) ≡ not (is_silent (get s.associations who) (max s.clock moment) (ce_dead (settled_in s)))
+    alike x f = ap (λ ce. not (is_silent (get s.associations ce) (max s.clock moment) (ce_dead (settled_in s)))) (sym (same_number who x f))
 
 -- what is known of an association
 record Known (s0 : ElementState) (is : List ElIn) (who : ℕ) (h : Heard) : Type 0 where
@@ -72,7 +72,8 @@ record Known (s0 : ElementState) (is : List ElIn) (who : ℕ) (h : Heard) : Type
 
 -- what holds after any inputs
 record Kept (s0 : ElementState) (is : List ElIn) (s : ElementState) : Type 0 where
-  id : s.told.id ≡ s0.told.id
+  id : id_of s ≡ id_of s0
+  responds : IsResponse s.transactions.kept
   all : (who : ℕ) (h : Heard) → get s.associations who ≡ Some h → Known s0 is who h
 
 module _ (s0 : ElementState) (is : List ElIn) (i : ElIn) where
@@ -88,7 +89,7 @@ module _ (s0 : ElementState) (is : List ElIn) (i : ElIn) where
 
     -- nothing has changed
     stays : Kept s0 (is ++ i ∷ []) s
-    stays = record { id = kept.id; all = λ who h e. more_known who h (kept.all who h e) }
+    stays = record { id = kept.id; responds = kept.responds; all = λ who h e. more_known who h (kept.all who h e) }
 
     -- an association was entered or renewed, of a control element that has accepted one
     module _ (peer : ℕ) (m : Message) (come : i ≡ Arrived peer m) (ce : is_ce m.source ≡ true) (accepted : WasAccepted s0 m.source (is ++ i ∷ [])) where
@@ -100,7 +101,7 @@ module _ (s0 : ElementState) (is : List ElIn) (i : ElIn) where
       }
 
       put : Kept s0 (is ++ i ∷ []) (with_associations s (finmap.insert s.associations m.source (heard_at s.clock peer)))
-      put = record { id = kept.id; all = all_put }
+      put = record { id = kept.id; responds = kept.responds; all = all_put }
         where
           A : AssociationMap
           A = finmap.insert s.associations m.source (heard_at s.clock peer)
@@ -119,7 +120,7 @@ module _ (s0 : ElementState) (is : List ElIn) (i : ElIn) where
 
     -- associations have ended
     fewer : (A : AssociationMap) → ((who : ℕ) (h : Heard) → get A who ≡ Some h → get s.associations who ≡ Some h) → Kept s0 (is ++ i ∷ []) (with_associations s A)
-    fewer A less = record { id = kept.id; all = λ who h e. more_known who h (kept.all who h (less who h e)) }
+    fewer A less = record { id = kept.id; responds = kept.responds; all = λ who h e. more_known who h (kept.all who h (less who h e)) }
 
     removed : (ce who : ℕ) (h : Heard) → get (finmap.remove s.associations ce) who ≡ Some h → get s.associations who ≡ Some h
     removed ce who h e = kept_one (eq_by_cmp nat_cmp who ce) (sym (get-remove nat_cmp_total s.associations ce who) ∙ e)
@@ -140,7 +141,7 @@ module _ (s0 : ElementState) (is : List ElIn) (i : ElIn) where
         by_known true e = put peer m come ce (more_accepted m.source (known_before (get s.associations m.source) refl e))
         by_known false e = fewer s.associations (λ who h f. f)
 
-    accepted_kept : (peer : ℕ) (m : Message) → i ≡ Arrived peer m → is_ce m.source ≡ true → m.dest ≡ s.told.id → m.body ≡ SetupResponse 0
+    accepted_kept : (peer : ℕ) (m : Message) → i ≡ Arrived peer m → is_ce m.source ≡ true → m.dest ≡ id_of s → m.body ≡ SetupResponse 0
         → Kept s0 (is ++ i ∷ []) (with_associations s (entered s.associations m.source peer s.clock))
     accepted_kept peer m come ce dest body = by_room (takes_in s.associations m.source)
       where
@@ -156,13 +157,10 @@ module _ (s0 : ElementState) (is : List ElIn) (i : ElIn) where
         → Kept s0 (is ++ i ∷ []) (cond b (turn (with_associations s (entered s.associations m.source peer s.clock)) []) (turn s [])).state
     response_kept peer m result come ce body true e =
         let p : (is_own s m ≡ true) × ((result == 0) ≡ true) = both _ _ e in
-        accepted_kept peer m come ce (eqb-true m.dest s.told.id p.0) (body ∙ ap SetupResponse (eqb-true result 0 p.1))
+        accepted_kept peer m come ce (eqb-true m.dest (id_of s) p.0) (body ∙ ap SetupResponse (eqb-true result 0 p.1))
     response_kept peer m result come ce body false e = stays
 
-    -- a query and a Config: whether the association is renewed or not, and whatever becomes of the configuration and what is registered
-    stored : (t : ElementState) (store : Stored) (subs : List Subscription) → Kept s0 (is ++ i ∷ []) t → Kept s0 (is ++ i ∷ []) (with_blocks t store subs)
-    stored t store subs k = record { id = k.id; all = k.all }
-
+    -- a query and a Config: whether the association is renewed or not, and whatever becomes of what Configs may change
     module _ (peer : ℕ) (m : Message) (come : i ≡ Arrived peer m) (ce : is_ce m.source ≡ true) (selects : List Select) where
       heard_kept : Kept s0 (is ++ i ∷ []) (hearing s peer m)
       heard_kept = heartbeat_kept peer m come ce
@@ -171,17 +169,18 @@ module _ (s0 : ElementState) (is : List ElIn) (i : ElIn) where
       query_kept true = heard_kept
       query_kept false = stays
 
-      unclaimed_kept : (a b : Bool) (o : Performed)
-          → Kept s0 (is ++ i ∷ []) (hearing (cond (not a) (all_get s peer m selects 12) (cond b (all_get s peer m selects 21) (executing s peer m selects o))).state peer m)
-      unclaimed_kept false b o = heard_kept
-      unclaimed_kept true true o = heard_kept
-      unclaimed_kept true false o = stored (hearing s peer m) o.store (evaluated o).0 heard_kept
+      taken_kept : (b : Bool) (t : TransactionState) → t.id ≡ s.transactions.id → IsResponse t.kept → Kept s0 (is ++ i ∷ []) (hearing_if b (with_transactions s t) peer m)
+      taken_kept true t e r = record { id = e ∙ kept.id; responds = r; all = heard_kept.all }
+      taken_kept false t e r = record { id = e ∙ kept.id; responds = r; all = stays.all }
 
-      order_kept : (a b c : Bool) → Kept s0 (is ++ i ∷ []) (cond (not a) (turn s []) (cond (not b) (all_get s peer m selects 4) (cond c (all_get s peer m selects 18) (renewing peer m (unclaimed s peer m selects))))).state
+      order_kept : (a b c : Bool)
+          → Kept s0 (is ++ i ∷ []) (cond (not a) (turn s []) (cond (not b) (all_get s peer m selects 4) (cond c (all_get s peer m selects 18) (taking s peer m (configured s.transactions peer m selects))))).state
       order_kept false b c = stays
       order_kept true false c = stays
       order_kept true true true = stays
-      order_kept true true false = unclaimed_kept (m.source == s.told.ce) m.flags.at (done_by m selects s.store s.subscriptions)
+      order_kept true true false =
+          let u = configured s.transactions peer m selects in
+          taken_kept u.is_heard u.state (configured_id s.transactions peer m selects) (configured_responds s.transactions peer m selects kept.responds)
 
       config_kept : (b : Bool) → Kept s0 (is ++ i ∷ []) (cond b (by_order s peer m selects) (turn s [])).state
       config_kept true = order_kept (results_fit selects && message_fits m) (is_own s m) (m.flags.em == 0)
@@ -203,20 +202,20 @@ module _ (s0 : ElementState) (is : List ElIn) (i : ElIn) where
     message_kept peer m come false e = stays
 
     left_kept : (moment : ℕ) → Kept s0 (is ++ i ∷ []) (with_associations (moved_on s moment) (left s moment))
-    left_kept moment = record { id = kept.id; all = λ who h e. more_known who h (kept.all who h (heard_still s moment who h e).0) }
+    left_kept moment = record { id = kept.id; responds = kept.responds; all = λ who h e. more_known who h (kept.all who h (heard_still s moment who h e).0) }
 
     watched_kept : (moment : ℕ) → Kept s0 (is ++ i ∷ []) (watched (moved_on s moment))
-    watched_kept moment = by_policy (ce_policy s.store == 0)
+    watched_kept moment = by_policy (ce_policy (settled_in s) == 0)
       where
         by_policy : (b : Bool) → Kept s0 (is ++ i ∷ []) (with_associations (moved_on s moment) (cond b (left s moment) s.associations))
         by_policy true = left_kept moment
-        by_policy false = record { id = stays.id; all = stays.all }
+        by_policy false = record { id = stays.id; responds = stays.responds; all = stays.all }
 
     beating_kept : (w : ElementState) → Kept s0 (is ++ i ∷ []) w → Kept s0 (is ++ i ∷ []) (beating w).state
     beating_kept w k = by_due (is_due w)
       where
-        by_due : (b : Bool) → Kept s0 (is ++ i ∷ []) (cond b (turn (beaten w) (beats_of w.told.id w.associations)) (turn w [])).state
-        by_due true = record { id = k.id; all = k.all }
+        by_due : (b : Bool) → Kept s0 (is ++ i ∷ []) (cond b (turn (beaten w) (beats_of (id_of w) w.associations)) (turn w [])).state
+        by_due true = record { id = k.id; responds = k.responds; all = k.all }
         by_due false = k
 
 step_kept : (s0 : ElementState) (is : List ElIn) (i : ElIn) (s : ElementState) → after s0 is ≡ s → Kept s0 is s → Kept s0 (is ++ i ∷ []) (step s i).state
@@ -243,7 +242,7 @@ always_kept id ce library instances is = runs_kept first [] first is refl at_fir
     none who h e = let f : get first.associations who ≡ None = get-empty nat_cmp who in cc
 
     at_first : Kept first [] first
-    at_first = record { id = refl; all = λ who h e. absurd (none who h e) }
+    at_first = record { id = refl; responds = tt; all = λ who h e. absurd (none who h e) }
 
 association : (s : ElementState) (who : ℕ) → IsAssociated s who → (h : Heard) × (get s.associations who ≡ Some h)
 association s who e = by_get (get s.associations who) refl e
@@ -273,6 +272,62 @@ named id ce who library instances is e =
     let kept = always_kept id ce library instances is in
     let k = kept.all who a.0 a.1 in
     k.ce
+
+pub kept_responds : (id ce : ℕ) (library : List Class) (instances : List (ℕ × ℕ)) (is : List ElIn) → IsResponse (after (opened id ce library instances) is).transactions.kept
+kept_responds id ce library instances is = let kept = always_kept id ce library instances is in kept.responds
+
+-- ---- the kept response, over one input from any state
+module _ (s : ElementState) (kept : IsResponse s.transactions.kept) (peer : ℕ) (m : Message) where
+  heard_responds : (b : Bool) (t : TransactionState) → IsResponse t.kept → IsResponse (hearing_if b (with_transactions s t) peer m).transactions.kept
+  heard_responds true t k = k
+  heard_responds false t k = k
+
+  config_responds : (selects : List Select) (a b c d : Bool)
+      → IsResponse (cond a (cond (not b) (turn s []) (cond (not c) (all_get s peer m selects 4) (cond d (all_get s peer m selects 18) (taking s peer m (configured s.transactions peer m selects))))) (turn s [])).state.transactions.kept
+  config_responds selects false b c d = kept
+  config_responds selects true false c d = kept
+  config_responds selects true true false d = kept
+  config_responds selects true true true true = kept
+  config_responds selects true true true false =
+      let u = configured s.transactions peer m selects in
+      heard_responds u.is_heard u.state (configured_responds s.transactions peer m selects kept)
+
+  query_responds : (selects : List Select) (b : Bool) → IsResponse (cond b (turn (hearing s peer m) (query_outs s peer m selects)) (turn s [])).state.transactions.kept
+  query_responds selects true = kept
+  query_responds selects false = kept
+
+  setup_responds : (b : Bool) → IsResponse (cond b (turn (with_associations s (entered s.associations m.source peer s.clock)) []) (turn s [])).state.transactions.kept
+  setup_responds true = kept
+  setup_responds false = kept
+
+  body_responds : (body : MsgBody) → IsResponse (on_body s peer m body).state.transactions.kept
+  body_responds (Setup selects) = kept
+  body_responds (SetupResponse result) = setup_responds (is_own s m && result == 0)
+  body_responds (Teardown reason) = kept
+  body_responds (Config selects) = config_responds selects (is_associated s m) (results_fit selects && message_fits m) (is_own s m) (m.flags.em == 0)
+  body_responds (ConfigResponse selects) = kept
+  body_responds (Query selects) = query_responds selects (is_associated s m)
+  body_responds (QueryResponse selects) = kept
+  body_responds (Event selects) = kept
+  body_responds Heartbeat = kept
+
+  message_responds : (b : Bool) → IsResponse (cond b (on_body s peer m m.body) (turn s [])).state.transactions.kept
+  message_responds true = body_responds m.body
+  message_responds false = kept
+
+beating_responds : (w : ElementState) (b : Bool) → IsResponse w.transactions.kept → IsResponse (cond b (turn (beaten w) (beats_of (id_of w) w.associations)) (turn w [])).state.transactions.kept
+beating_responds w true k = k
+beating_responds w false k = k
+
+moment_responds : (s : ElementState) (moment : ℕ) → IsResponse s.transactions.kept → IsResponse (beating (watched (moved_on s moment))).state.transactions.kept
+moment_responds s moment k = let w = watched (moved_on s moment) in beating_responds w (is_due w) k
+
+pub step_responds : (s : ElementState) (i : ElIn) → IsResponse s.transactions.kept → IsResponse (step s i).state.transactions.kept
+unfolding step
+step_responds s (Opened peer) k = k
+step_responds s (Arrived peer m) k = message_responds s k peer m (is_ce m.source)
+step_responds s (Closed peer) k = k
+step_responds s (Moment moment) k = moment_responds s moment k
 
 -- ---- silence
 -- whoever has an association was heard within so long a time
@@ -315,17 +370,16 @@ module _ (dead : ℕ) (s : ElementState) (timely : AreTimely dead s) where
     query_timely selects true = hearing_timely
     query_timely selects false = timely
 
-    unclaimed_timely : (selects : List Select) (a b : Bool) (o : Performed)
-        → AreTimely dead (hearing (cond (not a) (all_get s peer m selects 12) (cond b (all_get s peer m selects 21) (executing s peer m selects o))).state peer m)
-    unclaimed_timely selects false b o = hearing_timely
-    unclaimed_timely selects true true o = hearing_timely
-    unclaimed_timely selects true false o = hearing_timely
+    taken_timely : (b : Bool) (t : TransactionState) → AreTimely dead (hearing_if b (with_transactions s t) peer m)
+    taken_timely true t = hearing_timely
+    taken_timely false t = timely
 
-    order_timely : (selects : List Select) (a b c : Bool) → AreTimely dead (cond (not a) (turn s []) (cond (not b) (all_get s peer m selects 4) (cond c (all_get s peer m selects 18) (renewing peer m (unclaimed s peer m selects))))).state
+    order_timely : (selects : List Select) (a b c : Bool)
+        → AreTimely dead (cond (not a) (turn s []) (cond (not b) (all_get s peer m selects 4) (cond c (all_get s peer m selects 18) (taking s peer m (configured s.transactions peer m selects))))).state
     order_timely selects false b c = timely
     order_timely selects true false c = timely
     order_timely selects true true true = timely
-    order_timely selects true true false = unclaimed_timely selects (m.source == s.told.ce) m.flags.at (done_by m selects s.store s.subscriptions)
+    order_timely selects true true false = let u = configured s.transactions peer m selects in taken_timely u.is_heard u.state
 
     config_timely : (selects : List Select) (b : Bool) → AreTimely dead (cond b (by_order s peer m selects) (turn s [])).state
     config_timely selects true = order_timely selects (results_fit selects && message_fits m) (is_own s m) (m.flags.em == 0)
@@ -357,26 +411,26 @@ runs_timely : (dead : ℕ) (s : ElementState) (is : List ElIn) → AllByRecursio
 runs_timely dead s [] still timely = timely
 runs_timely dead s (i ∷ is) still timely = runs_timely dead (step s i).state is still.1 (step_timely dead s i still.0 timely)
 
-moment_timely : (s : ElementState) (moment : ℕ) → ce_policy s.store ≡ 0 → AreTimely (ce_dead s.store) (step s (Moment moment)).state
+moment_timely : (s : ElementState) (moment : ℕ) → ce_policy (settled_in s) ≡ 0 → AreTimely (ce_dead (settled_in s)) (step s (Moment moment)).state
 unfolding step
-moment_timely s moment watches = beating_timely (watched (moved_on s moment)) (by_policy (ce_policy s.store == 0) (policy (ce_policy s.store) watches))
+moment_timely s moment watches = beating_timely (watched (moved_on s moment)) (by_policy (ce_policy (settled_in s) == 0) (policy (ce_policy (settled_in s)) watches))
   where
     policy : (n : ℕ) → n ≡ 0 → (n == 0) ≡ true
     policy n e = grind (arith, nat_tests)
 
-    by_policy : (b : Bool) → b ≡ true → AreTimely (ce_dead s.store) (with_associations (moved_on s moment) (cond b (left s moment) s.associations))
+    by_policy : (b : Bool) → b ≡ true → AreTimely (ce_dead (settled_in s)) (with_associations (moved_on s moment) (cond b (left s moment) s.associations))
     by_policy true e who h f = (heard_still s moment who h f).1
     by_policy false e who h f = absurd (cc)
 
-    beating_timely : (w : ElementState) → AreTimely (ce_dead s.store) w → AreTimely (ce_dead s.store) (beating w).state
+    beating_timely : (w : ElementState) → AreTimely (ce_dead (settled_in s)) w → AreTimely (ce_dead (settled_in s)) (beating w).state
     beating_timely w timely = by_due (is_due w)
       where
-        by_due : (b : Bool) → AreTimely (ce_dead s.store) (cond b (turn (beaten w) (beats_of w.told.id w.associations)) (turn w [])).state
+        by_due : (b : Bool) → AreTimely (ce_dead (settled_in s)) (cond b (turn (beaten w) (beats_of (id_of w) w.associations)) (turn w [])).state
         by_due true = timely
         by_due false = timely
 
-pub silent_end : (s : ElementState) (who moment : ℕ) (behind : List ElIn) → AllByRecursion IsNoMoment behind → ce_policy s.store ≡ 0 → IsAssociated (after s (Moment moment ∷ behind)) who
-    → (h : Heard) × WasLast (after s (Moment moment ∷ behind)) who h × ((after s (Moment moment ∷ behind)).clock ≤ h.last + ce_dead s.store)
+pub silent_end : (s : ElementState) (who moment : ℕ) (behind : List ElIn) → AllByRecursion IsNoMoment behind → ce_policy (settled_in s) ≡ 0 → IsAssociated (after s (Moment moment ∷ behind)) who
+    → (h : Heard) × WasLast (after s (Moment moment ∷ behind)) who h × ((after s (Moment moment ∷ behind)).clock ≤ h.last + ce_dead (settled_in s))
 silent_end s who moment behind still watches e =
     let a = association (after s (Moment moment ∷ behind)) who e in
-    (a.0, a.1, runs_timely (ce_dead s.store) (step s (Moment moment)).state behind still (moment_timely s moment watches) who a.0 a.1)
+    (a.0, a.1, runs_timely (ce_dead (settled_in s)) (step s (Moment moment)).state behind still (moment_timely s moment watches) who a.0 a.1)

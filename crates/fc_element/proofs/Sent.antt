@@ -13,22 +13,22 @@ use Rattle.fc_msg.specs.declared.message.MsgBody.{MsgBody}
 use Rattle.fc_msg.specs.declared.message.MsgBody.TheVariants.{Setup, SetupResponse, Teardown, Config, ConfigResponse, Query, QueryResponse, Event, Heartbeat}
 use Rattle.fc_element.specs.declared.input.ElIn.{ElIn}
 use Rattle.fc_element.specs.declared.input.ElIn.TheVariants.{Opened, Arrived, Closed, Moment}
-use Rattle.fc_element.specs.declared.input.Out.{Out}
 use Rattle.fc_element.specs.ElementState.{ElementState, opened}
 use Rattle.fc_path.specs.Results.{results_fit}
+use Rattle.fc_performing.specs.Notices.{route}
+use Rattle.fc_performing.specs.Sending.{out}
+use Rattle.fc_performing.specs.declared.out.Out.{Out}
 use Rattle.fc_path.specs.declared.oper.Select.{Select}
 use Rattle.fc_reply.specs.Replies.{reply, response}
 use Rattle.fc_reply.proofs.Fitting.{sent_is}
 use Rattle.fc_reply.specs.Answered.{answered_selects}
 use Rattle.fc_types.specs.declared.class.Class.{Class}
-use Rattle.fc_element.specs.ElementMachine.{turn, step, answer_to, heartbeat_of, is_ce, is_own, is_associated, on_body, on_message, on_moment, by_order, done_by, down_outs, evaluated, has_lost, hearing, query_answer, query_selects, watched, moved_on, is_due, beating, beaten, beats_of}
-use Rattle.fc_element.specs.Notices.{route}
-use Rattle.fc_element.specs.Performing.{Performed}
-use Rattle.fc_element.specs.Sending.{out}
+use Rattle.fc_element.specs.ElementMachine.{turn, step, answer_to, heartbeat_of, is_ce, is_own, is_associated, on_body, on_message, on_moment, by_order, ce_of, down_outs, has_lost, hearing, id_of, ledger_of, settled_in, query_answer, query_selects, watched, moved_on, is_due, beating, beaten, beats_of}
 use Rattle.fc_element.specs.Runs.{after, sent, IsAssociated, Asks, Beats, IsCalledFor, WasCalledFor}
 use Rattle.fc_blocks.specs.Settings.{fe_policy, fe_interval}
 use Rattle.fc_element.proofs.Configs.{config_all}
-use Rattle.fc_element.proofs.Runs.{both, named, same_key}
+use Rattle.fc_element.proofs.Configured.{IsResponse}
+use Rattle.fc_element.proofs.Runs.{both, kept_responds, named, same_key}
 use Rattle.fc_element.proofs.Telling.{all_append, downs_all, notices_all}
 
 pub sent_each : (s : ElementState) (before behind : List ElIn) (i : ElIn)
@@ -79,36 +79,39 @@ no_reply peer m selects codes r e f =
     let is : r ≡ response m (answered_selects selects codes) = sent_is m r codes (answered_selects selects codes) e in
     no_config_response (answered_selects selects codes) (ap (λ (x : Message). x.body) (sym is) ∙ f)
 
-config_no_beat : (s : ElementState) (peer : ℕ) (m : Message) (selects : List Select) (a : Bool) → is_associated s m ≡ a → AllByRecursion IsNoBeat (cond a (by_order s peer m selects) (turn s [])).outs
-config_no_beat s peer m selects a known =
-    config_all IsNoBeat s peer m selects (λ codes r known fits e. no_reply peer m selects codes r e)
-    (λ known first. let p : Performed = done_by m selects s.store s.subscriptions in
-    notices_all IsNoBeat p.store.library (route s.told.id s.told.ce peer) (evaluated p).1 (λ n front back e fits. no_event (notice_select p.store.library n ∷ [])))
+kept_no_beat : (o : Option Message) (r : Message) (peer : ℕ) → IsResponse o → o ≡ Some r → IsNoBeat (out peer r)
+kept_no_beat o r peer k e f = let is : IsResponse (Some r) = subst IsResponse e k in no_config_response is.0 (sym is.1 ∙ f)
+
+config_no_beat : (s : ElementState) → IsResponse s.transactions.kept → (peer : ℕ) (m : Message) (selects : List Select) (a : Bool) → is_associated s m ≡ a
+    → AllByRecursion IsNoBeat (cond a (by_order s peer m selects) (turn s [])).outs
+config_no_beat s k peer m selects a known =
+    config_all IsNoBeat s peer m selects (λ codes r known fits e. no_reply peer m selects codes r e) (λ r known own e. kept_no_beat s.transactions.kept r peer k e)
+    (λ d known own e. notices_all IsNoBeat d.ledger.store.library (route (id_of s) m.source peer) d.notices (λ n front back f fits. no_event (notice_select d.ledger.store.library n ∷ [])))
     a known
 
 downs_no_beat : (s : ElementState) (remaining : AssociationMap) → AllByRecursion IsNoBeat (down_outs s remaining)
-downs_no_beat s remaining = downs_all IsNoBeat s remaining (λ ce h n front back e lost k fits. no_event (notice_select s.store.library n ∷ []))
+downs_no_beat s remaining = downs_all IsNoBeat s remaining (λ ce h n front back e lost k fits. no_event (notice_select (ledger_of s).store.library n ∷ []))
 
 no_answer : {P : Type 0} (outs : List Out) (peer : ℕ) (m : Message) → AllByRecursion IsNoBeat outs → outs ≡ out peer (answer_to m) ∷ [] → P
 no_answer outs peer m all e = absurd ((subst (AllByRecursion IsNoBeat) e all).0 refl)
 
-asked_by : (s : ElementState) (peer : ℕ) (m : Message) (body : MsgBody) → m.body ≡ body → (on_body s peer m body).outs ≡ out peer (answer_to m) ∷ [] → IsAssociated s m.source × Asks m
-asked_by s peer m (Setup selects) e f = nothing_is (out peer (answer_to m)) f
-asked_by s peer m (SetupResponse result) e f = quiet (is_own s m && result == 0) _ _ (out peer (answer_to m)) f
-asked_by s peer m (Teardown reason) e f = no_answer (down_outs s (remove s.associations m.source)) peer m (downs_no_beat s (remove s.associations m.source)) f
-asked_by s peer m (Config selects) e f = no_answer (cond (is_associated s m) (by_order s peer m selects) (turn s [])).outs peer m (config_no_beat s peer m selects (is_associated s m) refl) f
-asked_by s peer m (ConfigResponse selects) e f = nothing_is (out peer (answer_to m)) f
-asked_by s peer m (Query selects) e f = not_query s peer m selects (is_associated s m) (results_fit selects) f
-asked_by s peer m (QueryResponse selects) e f = nothing_is (out peer (answer_to m)) f
-asked_by s peer m (Event selects) e f = nothing_is (out peer (answer_to m)) f
-asked_by s peer m Heartbeat e f =
+asked_by : (s : ElementState) → IsResponse s.transactions.kept → (peer : ℕ) (m : Message) (body : MsgBody) → m.body ≡ body → (on_body s peer m body).outs ≡ out peer (answer_to m) ∷ [] → IsAssociated s m.source × Asks m
+asked_by s k peer m (Setup selects) e f = nothing_is (out peer (answer_to m)) f
+asked_by s k peer m (SetupResponse result) e f = quiet (is_own s m && result == 0) _ _ (out peer (answer_to m)) f
+asked_by s k peer m (Teardown reason) e f = no_answer (down_outs s (remove s.associations m.source)) peer m (downs_no_beat s (remove s.associations m.source)) f
+asked_by s k peer m (Config selects) e f = no_answer (cond (is_associated s m) (by_order s peer m selects) (turn s [])).outs peer m (config_no_beat s k peer m selects (is_associated s m) refl) f
+asked_by s k peer m (ConfigResponse selects) e f = nothing_is (out peer (answer_to m)) f
+asked_by s k peer m (Query selects) e f = not_query s peer m selects (is_associated s m) (results_fit selects) f
+asked_by s k peer m (QueryResponse selects) e f = nothing_is (out peer (answer_to m)) f
+asked_by s k peer m (Event selects) e f = nothing_is (out peer (answer_to m)) f
+asked_by s k peer m Heartbeat e f =
     let p : (contains_key s.associations m.source ≡ true) × ((m.flags.ack == 3) ≡ true) =
     both _ _ (answer_where (contains_key s.associations m.source && m.flags.ack == 3) (out peer (answer_to m)) (out peer (answer_to m)) f) in
     (p.0, (e, eqb-true m.flags.ack 3 p.1))
 
-asked_in : (s : ElementState) (peer : ℕ) (m : Message) (b : Bool) → (cond b (on_body s peer m m.body) (turn s [])).outs ≡ out peer (answer_to m) ∷ [] → IsAssociated s m.source × Asks m
-asked_in s peer m true e = asked_by s peer m m.body refl e
-asked_in s peer m false e = nothing_is (out peer (answer_to m)) e
+asked_in : (s : ElementState) → IsResponse s.transactions.kept → (peer : ℕ) (m : Message) (b : Bool) → (cond b (on_body s peer m m.body) (turn s [])).outs ≡ out peer (answer_to m) ∷ [] → IsAssociated s m.source × Asks m
+asked_in s k peer m true e = asked_by s k peer m m.body refl e
+asked_in s k peer m false e = nothing_is (out peer (answer_to m)) e
 
 is_answered : (s : ElementState) (peer : ℕ) (m : Message) → is_ce m.source ≡ true → IsAssociated s m.source → Asks m → (on_message s peer m).outs ≡ out peer (answer_to m) ∷ []
 is_answered s peer m ce known asks =
@@ -123,7 +126,7 @@ pub answered : (id ce peer : ℕ) (library : List Class) (instances : List (ℕ 
     → ((step (after (opened id ce library instances) is) (Arrived peer m)).outs ≡ out peer (answer_to m) ∷ []) ↔ (IsAssociated (after (opened id ce library instances) is) m.source × Asks m)
 unfolding step
 answered id ce peer library instances is m = (
-  λ e. asked_in (after (opened id ce library instances) is) peer m (is_ce m.source) e,
+  λ e. asked_in (after (opened id ce library instances) is) (kept_responds id ce library instances is) peer m (is_ce m.source) e,
   λ p. is_answered (after (opened id ce library instances) is) peer m (named id ce m.source library instances is p.0) p.0 p.1,
 )
 
@@ -144,31 +147,31 @@ config_called : (s : ElementState) (peer : ℕ) (m : Message) (selects : List Se
     → AllByRecursion (IsCalledFor s (Arrived peer m)) (cond a (by_order s peer m selects) (turn s [])).outs
 config_called s peer m selects body a known =
     config_all (IsCalledFor s (Arrived peer m)) s peer m selects (λ codes r known fits e. (known, inr (inr (inl (selects, codes, body, e, refl)))))
-    (λ known first. let p : Performed = done_by m selects s.store s.subscriptions in
-    notices_all (IsCalledFor s (Arrived peer m)) p.store.library (route s.told.id s.told.ce peer) (evaluated p).1
-    (λ n front back e fits. (known, inr (inr (inr (inl (selects, n, front, back, body, eqb-true m.source s.told.ce first, e, refl)))))))
+    (λ r known own e. (known, inr (inr (inr (inl (selects, r, body, own, e, refl))))))
+    (λ d known own e. notices_all (IsCalledFor s (Arrived peer m)) d.ledger.store.library (route (id_of s) m.source peer) d.notices
+    (λ n front back f fits. (known, inr (inr (inr (inr (inl (selects, d, n, front, back, body, own, e, f, refl))))))))
     a known
 
--- the first control element has an association, and without that of the sender it has none: it is the sender
+-- the control element that may configure the element has an association, and without that of the sender it has none: it is the sender
 lost_is : (s : ElementState) (m : Message) → has_lost s (remove s.associations m.source) ≡ true → IsAssociated s m.source
 lost_is s m lost =
     let p = both _ _ lost in
     let q = both _ _ p.1 in
-    by_key (eq_by_cmp nat_cmp s.told.ce m.source) refl q.0 (subst (λ (o : Option Heard). not (is_some o) ≡ true) (get-remove nat_cmp_total s.associations m.source s.told.ce) q.1)
+    by_key (eq_by_cmp nat_cmp (ce_of s) m.source) refl q.0 (subst (λ (o : Option Heard). not (is_some o) ≡ true) (get-remove nat_cmp_total s.associations m.source (ce_of s)) q.1)
   where
     not_both : (b : Bool) → b ≡ true → not b ≡ true → ⊥
     not_both true e f = cc
     not_both false e f = cc
 
-    by_key : (b : Bool) → eq_by_cmp nat_cmp s.told.ce m.source ≡ b → contains_key s.associations s.told.ce ≡ true → not (is_some (cond b None (get s.associations s.told.ce))) ≡ true
+    by_key : (b : Bool) → eq_by_cmp nat_cmp (ce_of s) m.source ≡ b → contains_key s.associations (ce_of s) ≡ true → not (is_some (cond b None (get s.associations (ce_of s)))) ≡ true
         → IsAssociated s m.source
-    by_key true e there gone = subst (λ (ce : ℕ). contains_key s.associations ce ≡ true) (same_key s.told.ce m.source e) there
-    by_key false e there gone = absurd (not_both (is_some (get s.associations s.told.ce)) there gone)
+    by_key true e there gone = subst (λ (ce : ℕ). contains_key s.associations ce ≡ true) (same_key (ce_of s) m.source e) there
+    by_key false e there gone = absurd (not_both (is_some (get s.associations (ce_of s))) there gone)
 
 teardown_called : (s : ElementState) (peer : ℕ) (m : Message) (reason : ℕ) → m.body ≡ Teardown reason → AllByRecursion (IsCalledFor s (Arrived peer m)) (down_outs s (remove s.associations m.source))
 teardown_called s peer m reason body =
     downs_all (IsCalledFor s (Arrived peer m)) s (remove s.associations m.source)
-    (λ ce h n front back e lost k fits. (lost_is s m lost, inr (inr (inr (inr (reason, body, (ce, h, n, front, back, e, lost, k, refl)))))))
+    (λ ce h n front back e lost k fits. (lost_is s m lost, inr (inr (inr (inr (inr (reason, body, (ce, h, n, front, back, e, lost, k, refl))))))))
 
 query_called : (s : ElementState) (peer : ℕ) (m : Message) (selects : List Select) → m.body ≡ Query selects → (a b : Bool) → is_associated s m ≡ a
     → AllByRecursion (IsCalledFor s (Arrived peer m)) (cond a (turn (hearing s peer m) (cond b (out peer (query_answer s m selects) ∷ []) [])) (turn s [])).outs
@@ -211,13 +214,13 @@ all_beats id front (pair ∷ pairs) = (
 beating_called : (w : ElementState) → AllByRecursion (Beats w w.associations) (beating w).outs
 beating_called w = by_due (is_due w) refl
   where
-    by_due : (b : Bool) → is_due w ≡ b → AllByRecursion (Beats w w.associations) (cond b (turn (beaten w) (beats_of w.told.id w.associations)) (turn w [])).outs
+    by_due : (b : Bool) → is_due w ≡ b → AllByRecursion (Beats w w.associations) (cond b (turn (beaten w) (beats_of (id_of w) w.associations)) (turn w [])).outs
     by_due false e = tt
     by_due true e =
-        let p : ((fe_policy w.store == 1) ≡ true) × ((not (nat_lt (w.clock - w.last_beat) (fe_interval w.store)) && not (len w.associations == 0)) ≡ true) = both _ _ e in
-        all_weaker (IsBeat w.told.id (entries w.associations)) (Beats w w.associations)
-        (λ o beat. (eqb-true (fe_policy w.store) 1 p.0, beat.0, beat.1, beat.2, beat.3, beat.4, beat.5))
-        (map (λ (pair : ℕ × Heard). out pair.1.peer (heartbeat_of w.told.id pair.0)) (entries w.associations)) (all_beats w.told.id [] (entries w.associations))
+        let p : ((fe_policy (settled_in w) == 1) ≡ true) × ((not (nat_lt (w.clock - w.last_beat) (fe_interval (settled_in w))) && not (len w.associations == 0)) ≡ true) = both _ _ e in
+        all_weaker (IsBeat (id_of w) (entries w.associations)) (Beats w w.associations)
+        (λ o beat. (eqb-true (fe_policy (settled_in w)) 1 p.0, beat.0, beat.1, beat.2, beat.3, beat.4, beat.5))
+        (map (λ (pair : ℕ × Heard). out pair.1.peer (heartbeat_of (id_of w) pair.0)) (entries w.associations)) (all_beats (id_of w) [] (entries w.associations))
 
 moment_called : (s : ElementState) (moment : ℕ) → AllByRecursion (IsCalledFor s (Moment moment)) (on_moment (moved_on s moment)).outs
 moment_called s moment =

@@ -8,12 +8,13 @@ use Rattle.fc_events.specs.Telling.{primary_down}
 use Rattle.fc_events.specs.declared.subscriptions.Notice.{Notice}
 use Rattle.fc_msg.specs.Messages.{message_fits}
 use Rattle.fc_types.specs.declared.class.Class.{Class}
-use Rattle.fc_element.specs.ElementMachine.{down_outs, has_lost}
+use Rattle.fc_performing.specs.Notices.{notice_message, notice_out, notice_outs, route, sent_if}
+use Rattle.fc_performing.specs.Sending.{out}
+use Rattle.fc_performing.specs.declared.out.Out.{Out}
+use Rattle.fc_performing.specs.declared.out.Route.{Route}
+use Rattle.fc_element.specs.ElementMachine.{down_outs, has_lost, id_of, ledger_of}
 use Rattle.fc_element.specs.ElementState.{ElementState}
-use Rattle.fc_element.specs.Notices.{down_to, listed, notice_message, notice_out, notice_outs, route, sent_if}
-use Rattle.fc_element.specs.Sending.{out}
-use Rattle.fc_element.specs.declared.input.Out.{Out}
-use Rattle.fc_element.specs.declared.notices.Route.{Route}
+use Rattle.fc_element.specs.Notices.{down_to, listed}
 
 pub all_append : {X : Type 0} (P : X → Type 0) (xs ys : List X) → AllByRecursion P xs → AllByRecursion P ys → AllByRecursion P (xs ++ ys)
 all_append P [] ys a b = b
@@ -41,24 +42,24 @@ notices_all P library r notices h = from [] notices refl
 
 -- of what those are told that remain
 pub downs_all : (P : Out → Type 0) (s : ElementState) (remaining : AssociationMap)
-    → ((ce : ℕ) (h : Heard) (n : Notice) (front back : List (ℕ × Heard)) → entries remaining ≡ front ++ (ce, h) ∷ back → has_lost s remaining ≡ true → primary_down ce s.subscriptions ≡ Some n
-    → message_fits (notice_message s.store.library (route s.told.id ce h.peer) n) ≡ true → P (out h.peer (notice_message s.store.library (route s.told.id ce h.peer) n)))
+    → ((ce : ℕ) (h : Heard) (n : Notice) (front back : List (ℕ × Heard)) → entries remaining ≡ front ++ (ce, h) ∷ back → has_lost s remaining ≡ true → primary_down ce (ledger_of s).subscriptions ≡ Some n
+    → message_fits (notice_message (ledger_of s).store.library (route (id_of s) ce h.peer) n) ≡ true → P (out h.peer (notice_message (ledger_of s).store.library (route (id_of s) ce h.peer) n)))
     → AllByRecursion P (down_outs s remaining)
 downs_all P s remaining h = by_lost (has_lost s remaining) refl
   where
-    one : (pair : ℕ × Heard) (front back : List (ℕ × Heard)) → entries remaining ≡ front ++ pair ∷ back → has_lost s remaining ≡ true → (o : Option Notice) → primary_down pair.0 s.subscriptions ≡ o
-        → AllByRecursion P (notice_outs s.store.library (route s.told.id pair.0 pair.1.peer) (listed o))
+    one : (pair : ℕ × Heard) (front back : List (ℕ × Heard)) → entries remaining ≡ front ++ pair ∷ back → has_lost s remaining ≡ true → (o : Option Notice) → primary_down pair.0 (ledger_of s).subscriptions ≡ o
+        → AllByRecursion P (notice_outs (ledger_of s).store.library (route (id_of s) pair.0 pair.1.peer) (listed o))
     one pair front back e lost None k = tt
     one pair front back e lost (Some n) k =
-        let r : Route = route s.told.id pair.0 pair.1.peer in
-        all_append P (notice_out s.store.library r n) [] (notice_all P s.store.library r n (h pair.0 pair.1 n front back e lost k)) tt
+        let r : Route = route (id_of s) pair.0 pair.1.peer in
+        all_append P (notice_out (ledger_of s).store.library r n) [] (notice_all P (ledger_of s).store.library r n (h pair.0 pair.1 n front back e lost k)) tt
 
-    from : has_lost s remaining ≡ true → (front pairs : List (ℕ × Heard)) → entries remaining ≡ front ++ pairs → AllByRecursion P (flat_map (down_to s.told.id s.store.library s.subscriptions) (map (λ (pair : ℕ × Heard). (pair.0, pair.1.peer)) pairs))
+    from : has_lost s remaining ≡ true → (front pairs : List (ℕ × Heard)) → entries remaining ≡ front ++ pairs → AllByRecursion P (flat_map (down_to (id_of s) (ledger_of s).store.library (ledger_of s).subscriptions) (map (λ (pair : ℕ × Heard). (pair.0, pair.1.peer)) pairs))
     from lost front [] e = tt
     from lost front (pair ∷ pairs) e =
-        all_append P (down_to s.told.id s.store.library s.subscriptions (pair.0, pair.1.peer)) (flat_map (down_to s.told.id s.store.library s.subscriptions) (map (λ (p : ℕ × Heard). (p.0, p.1.peer)) pairs)) (one pair front pairs e lost (primary_down pair.0 s.subscriptions) refl)
+        all_append P (down_to (id_of s) (ledger_of s).store.library (ledger_of s).subscriptions (pair.0, pair.1.peer)) (flat_map (down_to (id_of s) (ledger_of s).store.library (ledger_of s).subscriptions) (map (λ (p : ℕ × Heard). (p.0, p.1.peer)) pairs)) (one pair front pairs e lost (primary_down pair.0 (ledger_of s).subscriptions) refl)
         (from lost (front ++ pair ∷ []) pairs (e ∙ sym (append_assoc front (pair ∷ []) pairs)))
 
-    by_lost : (b : Bool) → has_lost s remaining ≡ b → AllByRecursion P (cond b (flat_map (down_to s.told.id s.store.library s.subscriptions) (map (λ (pair : ℕ × Heard). (pair.0, pair.1.peer)) (entries remaining))) [])
+    by_lost : (b : Bool) → has_lost s remaining ≡ b → AllByRecursion P (cond b (flat_map (down_to (id_of s) (ledger_of s).store.library (ledger_of s).subscriptions) (map (λ (pair : ℕ × Heard). (pair.0, pair.1.peer)) (entries remaining))) [])
     by_lost true e = from e [] (entries remaining) refl
     by_lost false e = tt

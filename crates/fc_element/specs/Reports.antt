@@ -1,24 +1,46 @@
--- The report on an element: a line with its ID, the epoch, the control element that is its master and the sequence, and behind it one line
--- for each component of its configuration that has another value than at its opening. This profile's own.
+-- The report on an element: a line with its ID, the epoch, the control element that may configure it and the sequence; behind it the floor,
+-- where one is set, a line for each record of a transaction, and one for each component of its settled configuration that has another value
+-- than at its opening. This profile's own.
 use Rattle.std.specs.Prelude.{ℕ, Bool, true, false, List, [], ◌∷◌, ◌++◌, Option, Some, None, Result, Ok, Err, bytes_eq, codes, decimal, if◌then◌else◌}
 use Rattle.std.specs.BTreeSet.{insert_key}
 use Rattle.std.specs.List.{flat_map, fold}
 use Rattle.std.specs.Ordering.{nat_cmp}
 use Rattle.fc_base.specs.Hex.{hex, hex_text}
+use Rattle.fc_base.specs.Ids.{Txn, txn_text}
 use Rattle.fc_path.specs.declared.oper.Spot.{Spot}
 use Rattle.fc_path.specs.declared.oper.Step.TheVariants as step
+use Rattle.fc_protocol.specs.declared.answers.TxnEntry.{TxnEntry}
+use Rattle.fc_protocol.specs.declared.states.TxnState.{TxnState}
+use Rattle.fc_protocol.specs.declared.states.TxnState.TheVariants.{Started, Prepared, Completed, Aborted}
 use Rattle.fc_store.specs.Stores.{Stored, declared_in, opened, seen}
 use Rattle.fc_store.specs.declared.spots.Purpose.TheVariants as purpose
+use Rattle.fc_transactions.specs.State.{TransactionState}
 use Rattle.fc_types.specs.BuiltIn.{is_live}
 use Rattle.fc_types.specs.Components.{ComponentDecl}
 use Rattle.fc_types.specs.declared.ty.Ty.{Ty}
 use Rattle.fc_value.specs.Writing.{full_bytes}
 use Rattle.fc_value.specs.declared.value.Value.{Value}
-use Rattle.fc_element.specs.ElementState.{ElementState}
+use Rattle.fc_element.specs.ElementState.{ElementState, settled_store}
 
-abbrev pub head_line : ℕ → ℕ → List ℕ
-head_line id ce = codes "element " ++ (decimal id ++ (codes " epoch 0 ce " ++ (hex 8 ce ++ codes " sequence 0\n")))
+-- ---- the element and its transactions
+unfoldable pub head_line : TransactionState → List ℕ
+head_line t =
+    codes "element " ++ (decimal t.id ++ (codes " epoch " ++ (decimal t.epoch ++ (codes " ce " ++ (hex 8 t.ce ++ (codes " sequence " ++ (decimal t.sequence ++ codes "\n")))))))
 
+unfoldable pub floor_line : Option Txn → List ℕ
+floor_line None = []
+floor_line (Some f) = codes "floor " ++ (txn_text f ++ codes "\n")
+
+abbrev pub state_name : TxnState → List ℕ
+state_name Started = codes "started"
+state_name Prepared = codes "prepared"
+state_name Completed = codes "completed"
+state_name Aborted = codes "aborted"
+
+unfoldable pub record_line : TxnEntry → List ℕ
+record_line n = codes "record " ++ (txn_text n.txn ++ (codes " " ++ (state_name n.state ++ codes "\n")))
+
+-- ---- the configuration
 -- the spot of a component of an instance
 abbrev pub component_spot : ℕ × ℕ → ℕ → Spot
 component_spot pair id = record { class = pair.0; instance = pair.1; steps = step.Id id ∷ [] }
@@ -74,5 +96,8 @@ instance_lines first s pair = flat_map (component_line first s pair) (rising_ids
 unfoldable pub config_lines : Stored → List ℕ
 config_lines s = flat_map (instance_lines (opened s.library s.instances) s) s.instances
 
+abbrev pub reported : TransactionState → List ℕ
+reported t = head_line t ++ (floor_line t.ledger.records.floor ++ (flat_map record_line t.ledger.records.entries ++ config_lines (settled_store t.ledger)))
+
 abbrev pub report_of : ElementState → List ℕ
-report_of s = head_line s.told.id s.told.ce ++ config_lines s.store
+report_of s = reported s.transactions

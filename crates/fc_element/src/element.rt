@@ -5,35 +5,37 @@ ghost use Rattle.fc_types.specs.Libraries.{AreKnown, is_own};
 ghost use Rattle.fc_msg.specs.Messages.{IsProper, ProperSelects};
 ghost use Rattle.fc_path.specs.Results.{results_fit};
 ghost use Rattle.fc_msg.specs.declared.message.MsgBody.TheVariants.{Config, Query};
-ghost use Rattle.fc_element.specs.ElementMachine.{CanBeSent, IsProperIn, IsSaid, by_order, down_outs, has_lost, is_due, leaving, moved_on, on_body, on_config, on_message, on_moment, on_query, query_outs, query_selects, remaining_of, step, unclaimed};
+ghost use Rattle.fc_performing.specs.Sending.{CanBeSent, IsSaid, responses};
+ghost use Rattle.fc_reply.specs.Counting.{each_gets};
+ghost use Rattle.fc_reply.specs.Replies.{reply};
+ghost use Rattle.fc_transactions.specs.Order.{configured};
+ghost use Rattle.fc_element.specs.ElementMachine.{IsProperIn, by_order, down_outs, has_lost, is_due, leaving, moved_on, on_body, on_config, on_message, on_moment, on_query, query_outs, query_selects, remaining_of, settled_in, step, taking};
 ghost use Rattle.fc_element.specs.ElementState.{opened};
 ghost use Rattle.fc_element.specs.Reports.{report_of};
 ghost use Rattle.fc_blocks.specs.Settings.{settings_in as settings_of};
 ghost use Rattle.std.specs.FinMap.{remove};
 
-use crate::config::{can_be_answered, execute, refusals};
-use crate::notices::{Route, told_down};
+use crate::ElIn;
+use crate::live::Telling;
+use crate::notices::told_down;
 use crate::replies::{ALWAYS, answer, one, push_beats, query_answer, setup};
-use crate::report::{push_config, report_line};
-use crate::{ElIn, Out};
+use crate::report::push_report;
+use crate::settled::settled_settings;
 use fc_assoc::Associations;
 use fc_base::{CeId, Code, Duplicate, FeId, List, Memory};
-use fc_blocks::{HeartbeatSettings, foreign_selects, open_blocks, settings_in, told_selects};
-use fc_events::Subscriptions;
-use fc_lfbs::LiveState;
+use fc_blocks::{HeartbeatSettings, foreign_selects, open_store, told_selects};
 use fc_msg::{Message, MsgBody};
 use fc_path::{Select, fits_results};
-use fc_store::Store;
+use fc_performing::{Out, can_be_answered, refusals};
+use fc_transactions::Transactions;
 use fc_types::{Instances, Library};
 use std::alloc::Global;
 use std::marker::Model;
 
 /// A forwarding element, which contracts see as what it holds.
-#[derive(Debug, Drop)]
+#[derive(Drop)]
 pub struct Element {
-    live: LiveState,
-    store: Store,
-    subscriptions: Subscriptions,
+    transactions: Transactions,
     associations: Associations,
     clock: u64,
     last_beat: u64,
@@ -47,7 +49,7 @@ impl Model for Element {
 
     ghost coded = { state_code };
 
-    ghost view = { λ s. record { told = s.live; store = s.store; subscriptions = s.subscriptions; associations = s.associations; clock = s.clock; last_beat = s.last_beat } };
+    ghost view = { λ s. record { transactions = s.transactions; associations = s.associations; clock = s.clock; last_beat = s.last_beat } };
 }
 
 impl Element {
@@ -64,11 +66,9 @@ impl Element {
         requires known { AreKnown library instances }
         ensures { IfOk result (λ element. element ≡ opened id ce library instances) }
     {
-        let (live, store) = open_blocks(alloc, id, ce, library, instances)?;
+        let store = open_store(alloc, library, instances)?;
         Ok(Element {
-            live,
-            store,
-            subscriptions: Subscriptions::new(alloc),
+            transactions: Transactions::new(alloc, id, ce, store)?,
             associations: Associations::new(alloc),
             clock: 0,
             last_beat: 0,
@@ -86,6 +86,7 @@ impl Element {
         ensures ok { OnOk result (self.new ≡ (step self.old input).state) }
         ensures err { OnErr result (self.new ≡ self.old) }
     {
+        let _kept = self.transactions.kept();
         self.taken(input)
     }
 
@@ -99,7 +100,7 @@ impl Element {
         ensures err { OnErr result (self.new ≡ self.old) }
     {
         match input {
-            ElIn::Opened(peer) => one(self.alloc, peer, setup(self.alloc, self.live.id)),
+            ElIn::Opened(peer) => one(self.alloc, peer, setup(self.alloc, self.transactions.id())),
             ElIn::Arrived(peer, message) => self.arrived(peer, message),
             ElIn::Closed(_) => Ok(List::new(self.alloc)),
             ElIn::Moment(moment) => self.moment(moment),
@@ -132,7 +133,7 @@ impl Element {
         let none = List::new(self.alloc);
         match &message.body {
             MsgBody::SetupResponse(result) => {
-                if message.dest == self.live.id.get() && *result == 0 {
+                if message.dest == self.transactions.id().get() && *result == 0 {
                     self.associations.setup_answer(ce, peer, self.clock)?;
                 }
                 Ok(none)
@@ -172,11 +173,11 @@ impl Element {
         Ok(outs)
     }
 
-    // Whether the first control element has an association, and is not among those that remain.
+    // Whether the control element that may configure the element has an association, and is not among those that remain.
     fn has_lost(&self, remaining: &Associations) -> bool
         ensures { result ≡ has_lost self.now remaining.now }
     {
-        match CeId::of(self.live.ce) {
+        match CeId::of(self.transactions.ce()) {
             None => false,
             Some(ce) => {
                 self.associations.peer_of(ce).is_some() && remaining.peer_of(ce).is_none()
@@ -184,7 +185,7 @@ impl Element {
         }
     }
 
-    // What those are told that remain, where the association of the first control element ends.
+    // What those are told that remain, where the association of the control element that may configure the element ends.
     fn down_outs(&self, remaining: &Associations) -> Result<List<Out>, Memory>
         ensures outs { IfOk result (λ outs. outs ≡ down_outs self.now remaining.now) }
         ensures proper { IfOk result (λ outs. AllByRecursion IsSaid outs) }
@@ -192,8 +193,9 @@ impl Element {
         if !self.has_lost(remaining) {
             return Ok(List::new(self.alloc));
         }
-        let (library, id) = (self.store.library(), self.live.id);
-        told_down(self.alloc, library, id, &self.subscriptions, remaining)
+        let (ledger, id) = (self.transactions.ledger(), self.transactions.id());
+        let library = ledger.store.library();
+        told_down(self.alloc, library, id, &ledger.subscriptions, remaining)
     }
 
     // A query came.
@@ -241,17 +243,21 @@ impl Element {
         ensures exact { IfOk result (λ others. others ≡ query_selects self.now message.now selects.now) }
         ensures proper { IfOk result (λ others. ProperSelects 20 others) }
     {
-        if message.dest == self.live.id.get() {
-            told_selects(
-                self.alloc,
-                &self.live,
-                &self.store,
-                &self.subscriptions,
-                selects,
-            )
-        } else {
-            foreign_selects(self.alloc, selects)
+        if message.dest != self.transactions.id().get() {
+            return foreign_selects(self.alloc, selects);
         }
+        let ledger = self.transactions.ledger();
+        let told = Telling {
+            alloc: self.alloc,
+            transactions: &self.transactions,
+        };
+        told_selects(
+            self.alloc,
+            &told,
+            &ledger.store,
+            &ledger.subscriptions,
+            selects,
+        )
     }
 
     // A Config came.
@@ -295,61 +301,60 @@ impl Element {
         if !can_be_answered(self.alloc, message, selects)? {
             return Ok(List::new(self.alloc));
         }
-        if message.dest != self.live.id.get() {
-            return refusals(
-                self.alloc,
-                peer,
-                message,
-                selects,
-                Code::INVALID_DESTINATION_PID,
-            );
+        if message.dest != self.transactions.id().get() {
+            return self.refused(peer, message, selects, Code::INVALID_DESTINATION_PID);
         }
         if message.flags.em == 0 {
-            return refusals(self.alloc, peer, message, selects, Code::INVALID_FLAGS);
+            return self.refused(peer, message, selects, Code::INVALID_FLAGS);
         }
-        let outs = self.unclaimed(peer, message, selects)?;
-        self.associations.heard(ce, peer, self.clock);
-        Ok(outs)
+        self.take(ce, peer, message, selects)
     }
 
-    // A Config with an execution mode came for this element, which no life of a control element has claimed.
-    fn unclaimed(
+    // The response to a Config none of whose operations is done, and which all get one code.
+    fn refused(
+        &self,
+        peer: u32,
+        message: &Message,
+        selects: &[Select],
+        code: Code,
+    ) -> Result<List<Out>, Memory>
+        requires proper { IsProper message.now }
+        requires body { message.now.body ≡ Config selects.now }
+        requires fits { results_fit selects.now ≡ true }
+        ensures outs { IfOk result (λ outs. outs ≡ responses peer (reply message.now selects.now (each_gets code selects.now))) }
+        ensures proper { IfOk result (λ outs. AllByRecursion IsSaid outs) }
+    {
+        let answered = refusals(self.alloc, peer, message, selects, code)?;
+        Ok(answered.outs)
+    }
+
+    // A Config with an execution mode came for this element.
+    fn take(
         &mut self,
+        ce: CeId,
         peer: u32,
         message: &Message,
         selects: &[Select],
     ) -> Result<List<Out>, Memory>
+        requires sender { ce ≡ message.now.source }
         requires proper { IsProper message.now }
         requires body { message.now.body ≡ Config selects.now }
-        ensures outs { IfOk result (λ outs. outs ≡ (unclaimed self.old peer message.now selects.now).outs) }
+        requires fits { results_fit selects.now ≡ true }
+        ensures outs { IfOk result (λ outs. outs ≡ (taking self.old peer message.now (configured self.old.transactions peer message.now selects.now)).outs) }
         ensures proper { IfOk result (λ outs. AllByRecursion IsSaid outs) }
-        ensures ok { OnOk result (self.new ≡ (unclaimed self.old peer message.now selects.now).state) }
+        ensures ok { OnOk result (self.new ≡ (taking self.old peer message.now (configured self.old.transactions peer message.now selects.now)).state) }
         ensures err { OnErr result (self.new ≡ self.old) }
     {
-        if message.source != self.live.ce {
-            return refusals(self.alloc, peer, message, selects, Code::READ_ONLY);
+        let taken = self.transactions.configure(ce, peer, message, selects)?;
+        if taken.is_heard {
+            self.associations.heard(ce, peer, self.clock);
         }
-        if message.flags.at {
-            return refusals(self.alloc, peer, message, selects, Code::NOT_SUPPORTED);
-        }
-        let route = Route {
-            from: self.live.id.get(),
-            to: self.live.ce,
-            peer,
-        };
-        execute(
-            self.alloc,
-            &mut self.store,
-            &mut self.subscriptions,
-            route,
-            message,
-            selects,
-        )
+        Ok(taken.outs)
     }
 
-    // The associations that remain at a moment, where silent ones end by the settings that the configuration has.
+    // The associations that remain at a moment, where silent ones end by the settings that the settled configuration has.
     fn remaining(&self, now: u64, settings: &HeartbeatSettings) -> Result<Associations, Memory>
-        requires { settings.now ≡ settings_of self.now.store }
+        requires { settings.now ≡ settings_of (settled_in self.now) }
         ensures { IfOk result (λ remaining. remaining ≡ remaining_of self.now now) }
     {
         let mut remaining = self.associations.copy()?;
@@ -366,7 +371,7 @@ impl Element {
         ensures ok { OnOk result (self.new ≡ (on_moment (moved_on self.old moment)).state) }
         ensures err { OnErr result (self.new ≡ self.old) }
     {
-        let settings = settings_in(self.alloc, &self.store)?;
+        let settings = settled_settings(self.alloc, self.transactions.ledger())?;
         let now = self.clock.max(moment);
         let remaining = self.remaining(now, &settings)?;
         let mut outs = self.down_outs(&remaining)?.into_vec();
@@ -374,15 +379,15 @@ impl Element {
         self.associations = remaining;
         self.clock = now;
         if self.is_due(&settings) {
-            push_beats(self.live.id, &self.associations, &mut outs);
+            push_beats(self.transactions.id(), &self.associations, &mut outs);
             self.last_beat = self.clock;
         }
         Ok(List::from_vec(outs))
     }
 
-    // Whether heartbeats are due, by the settings that the configuration has.
+    // Whether heartbeats are due, by the settings that the settled configuration has.
     fn is_due(&self, settings: &HeartbeatSettings) -> bool
-        requires { settings.now ≡ settings_of self.now.store }
+        requires { settings.now ≡ settings_of (settled_in self.now) }
         ensures { result ≡ is_due self.now }
     {
         settings.fe_policy == 1
@@ -390,16 +395,16 @@ impl Element {
             && self.associations.len() != 0
     }
 
-    /// Appends the report: a line with the ID, the epoch, the control element and the sequence, and behind it the lines of the configuration,
-    /// by rising class, instance and component: `config CLASS INSTANCE ID BYTES` for each component whose value differs from its opening
-    /// one, with its full form in hexadecimal digits, or `absent`. What the element itself tells has no line. After an `Err` nothing has
-    /// changed.
+    /// Appends the report: `element ID epoch E ce CE sequence S`; `floor E.N` where a floor is set; `record E.N STATE` for each record of a
+    /// transaction, in the order in which they were entered; and behind that the lines of the settled configuration, by rising class, instance
+    /// and component: `config CLASS INSTANCE ID BYTES` for each component whose value differs from its opening one, with its full form in
+    /// hexadecimal digits, or `absent`. What the element itself tells has no line. After an `Err` nothing has changed.
     pub fn report(&self, into: &mut Vec<u8>) -> Result<(), Memory>
         ensures ok { OnOk result (into.new.items ≡ into.old.items ++ report_of self.now) }
         ensures err { OnErr result (into.new.items ≡ into.old.items) }
     {
-        let mut text = report_line(self.alloc, self.live.id, self.live.ce)?;
-        push_config(&self.store, &mut text)?;
+        let mut text = Vec::new(self.alloc);
+        push_report(&self.transactions, &mut text)?;
         into.extend_from_slice(&text)?;
         Ok(())
     }

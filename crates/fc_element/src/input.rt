@@ -1,4 +1,4 @@
-// What an element takes and gives.
+// What an element takes.
 use fc_msg::Message;
 
 /// What comes to an element. A peer is the number of a byte carrier.
@@ -12,11 +12,4 @@ pub enum ElIn {
     Closed(u32),
     /// It is this moment, in milliseconds.
     Moment(u64),
-}
-
-/// A message to a peer.
-#[derive(Debug, PartialEq, Eq, Drop)]
-pub struct Out {
-    pub peer: u32,
-    pub message: Message,
 }

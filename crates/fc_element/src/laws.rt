@@ -3,14 +3,12 @@ ghost use Rattle.std.specs.Prelude.{◌≡◌, ◌≤◌, ◌+◌, ◌++◌, ◌
 ghost use Rattle.std.specs.List.{AllByRecursion};
 ghost use Rattle.std.specs.List.Sorted.{IsPermutation};
 ghost use Rattle.fc_assoc.specs.declared.heard.Heard.{Heard};
-ghost use Rattle.fc_exec.specs.Operations.{applied};
-ghost use Rattle.fc_modes.specs.Modes.{folded};
 ghost use Rattle.fc_msg.specs.declared.message.Message.{Message};
 ghost use Rattle.fc_types.specs.declared.class.Class.{Class as Classes};
-ghost use Rattle.fc_element.specs.ElementMachine.{answer_to, step};
-ghost use Rattle.fc_element.specs.Sending.{out};
+ghost use Rattle.fc_element.specs.ElementMachine.{answer_to, settled_in, step};
+ghost use Rattle.fc_performing.specs.Sending.{out};
 ghost use Rattle.fc_element.specs.ElementState.{ElementState, opened};
-ghost use Rattle.fc_element.specs.Runs.{Asks, IsAssociated, IsNoMoment, WasAccepted, WasCalledFor, WasHeard, WasLast, after, done, sent};
+ghost use Rattle.fc_element.specs.Runs.{Asks, IsAssociated, IsNoMoment, WasAccepted, WasCalledFor, WasHeard, WasLast, after, facts, ledgered, sent, taken};
 ghost use Rattle.fc_blocks.specs.Settings.{ce_dead, ce_policy};
 ghost use Rattle.fc_element.specs.declared.input.ElIn.{ElIn};
 ghost use Rattle.fc_element.specs.declared.input.ElIn.TheVariants.{Arrived, Moment};
@@ -27,9 +25,9 @@ pub fn associations_are_accepted_and_heard()
 {}
 
 /// Whoever has an association was, at the last moment that was told, heard within the time that was allowed then, if the configuration
-/// had it then that silent associations end.
+/// that was settled then had it that silent associations end.
 pub fn silent_associations_end()
-    ensures { (s : ElementState) (who moment : ℕ) (behind : List ElIn) → AllByRecursion IsNoMoment behind → ce_policy s.store ≡ 0 → IsAssociated (after s (Moment moment ∷ behind)) who → (h : Heard) × WasLast (after s (Moment moment ∷ behind)) who h × ((after s (Moment moment ∷ behind)).clock ≤ h.last + ce_dead s.store) }
+    ensures { (s : ElementState) (who moment : ℕ) (behind : List ElIn) → AllByRecursion IsNoMoment behind → ce_policy (settled_in s) ≡ 0 → IsAssociated (after s (Moment moment ∷ behind)) who → (h : Heard) × WasLast (after s (Moment moment ∷ behind)) who h × ((after s (Moment moment ∷ behind)).clock ≤ h.last + ce_dead (settled_in s)) }
 {}
 
 /// After any inputs a heartbeat is answered, by one message to the peer from which it came, exactly where its sender has an
@@ -45,7 +43,9 @@ pub fn nothing_else_is_sent()
     ensures only { (s : ElementState) (is : List ElIn) → AllByRecursion (WasCalledFor s is) (sent s is) }
 {}
 
-/// After any inputs the configuration is what the operations that were done make of the first one, one after the other.
-pub fn the_configuration_is_what_was_done()
-    ensures { (s : ElementState) (is : List ElIn) → (after s is).store ≡ folded applied s.store (done s is) }
+/// After any inputs, what Configs may change is what those Configs make of it, one after the other, that came for the element with an
+/// execution mode, from a control element that had an association, and can be answered; and what has happened to it happened at them.
+pub fn configs_alone_configure()
+    ensures state { (s : ElementState) (is : List ElIn) → (after s is).transactions ≡ (ledgered s.transactions (taken s is)).state }
+    ensures facts { (s : ElementState) (is : List ElIn) → facts s is ≡ (ledgered s.transactions (taken s is)).facts }
 {}

@@ -1,92 +1,15 @@
-// The notices that an element sends.
+// Who is told that the primary control element is gone.
 ghost use Rattle.std.specs.Prelude.{◌≡◌, ◌++◌, IfOk, OnOk};
 ghost use Rattle.std.specs.List.{AllByRecursion, flat_map};
-ghost use Rattle.fc_msg.specs.Messages.{IsProper, message_fits};
-ghost use Rattle.fc_element.specs.ElementMachine.{IsSaid};
+ghost use Rattle.fc_performing.specs.Sending.{IsSaid};
 ghost use Rattle.fc_element.specs.Notices as spec;
 
-use crate::Out;
-use crate::replies::event_message;
 use fc_assoc::Associations;
-use fc_base::{FeId, List, Memory, WriteFault};
-use fc_events::{Notice, Subscriptions};
-use fc_msg::{Message, encode};
+use fc_base::{FeId, List, Memory};
+use fc_events::Subscriptions;
+use fc_performing::{Out, Route, push_notices};
 use fc_types::Library;
 use std::alloc::Global;
-
-/// Who tells what happened, who is told, and over which peer.
-#[derive(Clone, Copy, Debug)]
-pub struct Route {
-    /// The ID of the element.
-    pub from: u32,
-    /// The ID of the control element.
-    pub to: u32,
-    pub peer: u32,
-}
-
-/// Whether a message can be encoded.
-pub fn can_be_encoded(alloc: Global, message: &Message) -> Result<bool, Memory>
-    ensures { IfOk result (λ can. can ≡ message_fits message.now) }
-{
-    let mut bytes = Vec::new(alloc);
-    match encode(message, &mut bytes) {
-        Ok(()) => Ok(true),
-        Err(WriteFault::TooLong) => Ok(false),
-        Err(WriteFault::Memory) => Err(Memory),
-    }
-}
-
-// The message that tells a notice.
-fn notice_message(
-    alloc: Global,
-    library: &Library,
-    route: Route,
-    notice: &Notice,
-) -> Result<Message, Memory>
-    ensures exact { IfOk result (λ message. message ≡ spec.notice_message library.now route notice.now) }
-    ensures proper { IfOk result (λ message. IsProper message) }
-{
-    let select = notice.select(alloc, library)?;
-    let mut selects = List::new(alloc);
-    selects.push(select)?;
-    Ok(event_message(route.from, route.to, selects))
-}
-
-// Appends a notice, unless a length in it passes its field.
-fn push_notice(
-    outs: &mut List<Out>,
-    library: &Library,
-    route: Route,
-    notice: &Notice,
-) -> Result<(), Memory>
-    ensures sent { OnOk result (outs.new ≡ outs.old ++ spec.notice_out library.now route notice.now) }
-    ensures proper { OnOk result (AllByRecursion IsSaid outs.old → AllByRecursion IsSaid outs.new) }
-{
-    let message = notice_message(outs.alloc(), library, route, notice)?;
-    if can_be_encoded(outs.alloc(), &message)? {
-        outs.push(Out {
-            peer: route.peer,
-            message,
-        })?;
-    }
-    Ok(())
-}
-
-/// Appends notices, in their order, but for those in which a length passes its field.
-pub fn push_notices(
-    outs: &mut List<Out>,
-    library: &Library,
-    route: Route,
-    notices: &[Notice],
-) -> Result<(), Memory>
-    ensures sent { OnOk result (outs.new ≡ outs.old ++ spec.notice_outs library.now route notices.now) }
-    ensures proper { OnOk result (AllByRecursion IsSaid outs.old → AllByRecursion IsSaid outs.new) }
-{
-    for notice in notices {
-        push_notice(outs, library, route, notice)?;
-    }
-    Ok(())
-}
 
 // Each control element that has an association, with its peer, by rising ID.
 fn peers_of(alloc: Global, associations: &Associations) -> Result<Vec<(u32, u32)>, Memory>
@@ -119,7 +42,7 @@ fn push_down(
         peer: seen.1,
     };
     match subscriptions.primary_down(seen.0)? {
-        Some(notice) => push_notice(outs, library, route, &notice),
+        Some(notice) => push_notices(outs, library, route, &[notice]),
         None => Ok(()),
     }
 }

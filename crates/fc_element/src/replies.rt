@@ -3,14 +3,14 @@ ghost use Rattle.std.specs.Prelude.{◌≡◌, ◌≤◌, ◌<◌, ◌-◌, ◌+
 ghost use Rattle.std.specs.List.{AllByRecursion};
 ghost use Rattle.fc_msg.specs.Messages.{IsProper, ProperSelects};
 ghost use Rattle.fc_msg.specs.declared.message.MsgBody.TheVariants.{QueryResponse};
-ghost use Rattle.fc_element.specs.ElementMachine.{IsSaid, answer_to, answer_with, beats_of, heartbeat_of, setup_of};
-ghost use Rattle.fc_element.specs.Sending.{asking, event_from, out};
+ghost use Rattle.fc_element.specs.ElementMachine.{answer_to, answer_with, beats_of, heartbeat_of, setup_of};
+ghost use Rattle.fc_performing.specs.Sending.{IsSaid, asking, out};
 
-use crate::Out;
 use fc_assoc::Associations;
 use fc_base::{CeId, FeId, List, Memory};
 use fc_msg::{Message, MsgBody};
 use fc_path::Select;
+use fc_performing::Out;
 use fc_wire::Flags;
 use std::alloc::Global;
 
@@ -77,21 +77,6 @@ pub fn query_answer(message: &Message, selects: List<Select>) -> Message
         corr,
         flags: asking(0),
         body: MsgBody::QueryResponse(selects),
-    }
-}
-
-/// A message to a control element that tells of events.
-pub fn event_message(from: u32, to: u32, selects: List<Select>) -> Message
-    requires { ProperSelects 5 selects }
-    ensures exact { result ≡ event_from from to selects }
-    ensures proper { IsProper result }
-{
-    Message {
-        source: from,
-        dest: to,
-        corr: 0,
-        flags: asking(0),
-        body: MsgBody::Event(selects),
     }
 }
 

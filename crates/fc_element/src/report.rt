@@ -1,27 +1,96 @@
-// The report on an element: a line on itself, and the lines of its configuration.
-ghost use Rattle.std.specs.Prelude.{◌≡◌, ◌++◌, [], IfOk, OnOk};
+// The report on an element: a line on itself, its floor, its records, and the lines of its settled configuration.
+ghost use Rattle.std.specs.Prelude.{◌≡◌, ◌++◌, [], IfOk, OnOk, slice_get, string_bytes};
 ghost use Rattle.std.specs.List.{flat_map};
 ghost use Rattle.fc_store.specs.Stores.{declared_in};
+ghost use Rattle.fc_element.specs.ElementState as states;
+ghost use Rattle.fc_element.specs.Places.{of_some};
 ghost use Rattle.fc_element.specs.Reports as spec;
-ghost use Rattle.fc_element.specs.Reports.{bytes_text, component_line, component_text, config_line, config_lines, form_at, form_text, head_line, instance_lines};
+ghost use Rattle.fc_element.specs.Reports.{bytes_text, component_line, component_text, config_line, config_lines, form_at, form_text, instance_lines};
 
-use fc_base::{FeId, List, Memory, Octets, OpFault, eight_digits, push_hex};
+use crate::settled::settled_store;
+use fc_base::{List, Memory, Octets, OpFault, TxnId, eight_digits, push_hex};
 use fc_path::{Spot, Step};
 use fc_store::Store;
+use fc_transactions::{Ledger, Transactions};
+use fc_tx::{Records, TxnEntry, TxnState};
 use fc_types::{Class, Component, is_live, with_id};
 use std::alloc::Global;
 use std::collections::BTreeSet;
 
-/// The line on an element with this ID whose master is that control element.
-pub fn report_line(alloc: Global, id: FeId, ce: u32) -> Result<Vec<u8>, Memory>
-    ensures { IfOk result (λ line. line.items ≡ head_line id ce) }
+// Appends the line on an element.
+#[tactic(auto, unfolding(crate::specs::Reports::head_line))]
+fn push_head(transactions: &Transactions, into: &mut Vec<u8>) -> Result<(), Memory>
+    ensures { OnOk result (into.new.items ≡ into.old.items ++ spec.head_line transactions.now) }
 {
-    let number = id.get();
-    let head = format!(in alloc; "element {number} epoch 0 ce ")?;
-    let mut line = Vec::from_slice(alloc, head.as_bytes())?;
-    line.extend_from_slice(&eight_digits(ce))?;
-    line.extend_from_slice(b" sequence 0\n")?;
-    Ok(line)
+    let alloc = *into.allocator();
+    let id = transactions.id().get();
+    let fence = transactions.fence();
+    let epoch = fence.epoch;
+    let sequence = fence.sequence;
+    let head = format!(in alloc; "element {id} epoch {epoch} ce ")?;
+    let tail = format!(in alloc; " sequence {sequence}\n")?;
+    into.extend_from_slice(head.as_bytes())?;
+    into.extend_from_slice(&eight_digits(transactions.ce()))?;
+    into.extend_from_slice(tail.as_bytes())?;
+    Ok(())
+}
+
+// Appends the line on the floor, where one is set.
+#[tactic(auto, unfolding(crate::specs::Reports::floor_line))]
+fn push_floor(floor: Option<TxnId>, into: &mut Vec<u8>) -> Result<(), Memory>
+    ensures { OnOk result (into.new.items ≡ into.old.items ++ spec.floor_line floor) }
+{
+    match floor {
+        None => Ok(()),
+        Some(floor) => {
+            let line = format!(in *into.allocator(); "floor {floor}\n")?;
+            into.extend_from_slice(line.as_bytes())?;
+            Ok(())
+        }
+    }
+}
+
+// The line on a transaction.
+#[tactic(auto, unfolding(crate::specs::Reports::record_line))]
+fn record_line(alloc: Global, entry: &TxnEntry) -> Result<String, Memory>
+    ensures { IfOk result (λ line. string_bytes line ≡ spec.record_line entry.now) }
+{
+    let txn = entry.txn;
+    match entry.state {
+        TxnState::Started => Ok(format!(in alloc; "record {txn} started\n")?),
+        TxnState::Prepared => Ok(format!(in alloc; "record {txn} prepared\n")?),
+        TxnState::Completed => Ok(format!(in alloc; "record {txn} completed\n")?),
+        TxnState::Aborted => Ok(format!(in alloc; "record {txn} aborted\n")?),
+    }
+}
+
+// Appends the line on a transaction.
+fn push_record(entry: &TxnEntry, into: &mut Vec<u8>) -> Result<(), Memory>
+    ensures { OnOk result (into.new.items ≡ into.old.items ++ spec.record_line entry.now) }
+{
+    let line = record_line(*into.allocator(), entry)?;
+    into.extend_from_slice(line.as_bytes())?;
+    Ok(())
+}
+
+// Appends the line on the record at a place, where there is one.
+fn push_record_at(records: &Records, place: usize, into: &mut Vec<u8>) -> Result<(), Memory>
+    ensures { OnOk result (into.new.items ≡ into.old.items ++ of_some spec.record_line (slice_get records.now.entries place)) }
+{
+    match records.entry(place) {
+        Some(entry) => push_record(entry, into),
+        None => Ok(()),
+    }
+}
+
+// Appends the lines on all records, in order of entry.
+fn push_records(records: &Records, into: &mut Vec<u8>) -> Result<(), Memory>
+    ensures { OnOk result (into.new.items ≡ into.old.items ++ flat_map spec.record_line records.now.entries) }
+{
+    for place in 0..records.len() {
+        push_record_at(records, place, into)?;
+    }
+    Ok(())
 }
 
 // The spot of a component of an instance.
@@ -226,12 +295,31 @@ fn push_instances(
     Ok(())
 }
 
-/// Appends the lines of a configuration: one for each component that is not live and has another value than in a new store with the same
-/// library and instances.
+// Appends the lines of a configuration: one for each component that is not live and has another value than in a new store with the same
+// library and instances.
 #[tactic(auto, unfolding(crate::specs::Reports::config_lines))]
-pub fn push_config(store: &Store, into: &mut Vec<u8>) -> Result<(), Memory>
+fn push_config(store: &Store, into: &mut Vec<u8>) -> Result<(), Memory>
     ensures { OnOk result (into.new.items ≡ into.old.items ++ config_lines store.now) }
 {
     let first = Store::new(*into.allocator(), store.library(), store.instances())?;
     push_instances(&first, store, store.instances().pairs(), into)
+}
+
+// Appends the lines of the settled configuration.
+fn push_settled(ledger: &Ledger, into: &mut Vec<u8>) -> Result<(), Memory>
+    ensures { OnOk result (into.new.items ≡ into.old.items ++ config_lines (states.settled_store ledger.now)) }
+{
+    let settled = settled_store(*into.allocator(), ledger)?;
+    push_config(&settled, into)
+}
+
+/// Appends the report on an element by what Configs may change.
+pub fn push_report(transactions: &Transactions, into: &mut Vec<u8>) -> Result<(), Memory>
+    ensures { OnOk result (into.new.items ≡ into.old.items ++ spec.reported transactions.now) }
+{
+    let ledger = transactions.ledger();
+    push_head(transactions, into)?;
+    push_floor(ledger.records.floor(), into)?;
+    push_records(&ledger.records, into)?;
+    push_settled(ledger, into)
 }

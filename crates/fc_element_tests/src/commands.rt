@@ -1,4 +1,5 @@
 // What the words of a command line mean.
+use fc_base::Text;
 use fc_words::{Command, WordFault, command};
 use std::alloc::Global;
 use std::test::Fail;
@@ -15,7 +16,7 @@ fn words(alloc: Global, line: &str) -> Result<Vec<String>, Fail> {
 // The values of `element`: the two IDs, the two counts and the address.
 fn values(given: &Command) -> Option<([u32; 4], &str)> {
     match given {
-        Command::Show | Command::Make => None,
+        Command::Show | Command::Make | Command::Control { .. } => None,
         Command::Element {
             fe,
             ce,
@@ -65,6 +66,59 @@ fn commands_have_their_values(rt: HostRuntime) -> Result<(), Fail> {
     Ok(())
 }
 
+// What `control` asks for: its ID, the file of its rounds, the two counts and the addresses, between which spaces stand.
+fn controls(alloc: Global, given: &Command) -> Result<String, Fail> {
+    match given {
+        Command::Control {
+            ce,
+            rounds_file,
+            connections,
+            turns,
+            addresses,
+        } => {
+            let id = ce.get();
+            let file = rounds_file.as_str();
+            let mut told = format!(in alloc; "{id:08X} {file} {connections} {turns}")?;
+            push_addresses(&mut told, addresses.as_slice())?;
+            Ok(told)
+        }
+        Command::Show | Command::Make | Command::Element { .. } => {
+            Err(Fail::from("another command"))
+        }
+    }
+}
+
+fn push_addresses(told: &mut String, addresses: &[Text]) -> Result<(), Fail> {
+    for address in addresses {
+        told.push_str(" ")?;
+        told.push_str(address.as_str())?;
+    }
+    Ok(())
+}
+
+fn told(alloc: Global, line: &str) -> Result<String, Fail> {
+    match meant(alloc, line)? {
+        Some(given) => controls(alloc, &given),
+        None => Err(Fail::from("no command")),
+    }
+}
+
+#[test]
+fn control_has_an_address_for_each_element(rt: HostRuntime) -> Result<(), Fail> {
+    let alloc = rt.alloc();
+    let one = told(alloc, "control 4000000a r 1 9 a")?;
+    assert_eq!(rt; one.as_str(), "4000000A r 1 9 a");
+    let many = told(
+        alloc,
+        "control 40000001 a/b 4294967295 4294967295 a:1 b:2 a:1 =",
+    )?;
+    assert_eq!(rt;
+        many.as_str(),
+        "40000001 a/b 4294967295 4294967295 a:1 b:2 a:1 ="
+    );
+    Ok(())
+}
+
 // Lines that are no command; `$` stands for the end of each.
 const NO_COMMANDS: &str = "\
 $
@@ -104,7 +158,22 @@ element 7 0x40000A a 1 1$
 element 7 4000000A a 1 1_0$
 element 7 4000000A a 4294967296 1$
 element 7 4000000A a 1 4294967296$
-element 7 4000000A a 1 -1$";
+element 7 4000000A a 1 -1$
+control$
+control 40000001 r 1 9$
+control 40000001 r 1 9 $
+control 40000001 r 1 9 a $
+control 40000001 r 1 9  a$
+control 40000001 r 1 9 a -b$
+control 40000001  1 9 a$
+control 40000001 -r 1 9 a$
+control 40000000 r 1 9 a$
+control 4000001 r 1 9 a$
+control 40000001 r 0 9 a$
+control 40000001 r 01 9 a$
+control 40000001 r 1 0 a$
+control 40000001 r 1 4294967296 a$
+CONTROL 40000001 r 1 9 a$";
 
 #[test]
 fn other_words_are_no_command(rt: HostRuntime) -> Result<(), Fail> {

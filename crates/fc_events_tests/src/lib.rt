@@ -8,6 +8,8 @@ mod library;
 #[cfg(test)]
 mod many;
 #[cfg(test)]
+mod memory;
+#[cfg(test)]
 mod tables;
 #[cfg(test)]
 mod trial;

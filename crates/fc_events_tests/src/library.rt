@@ -1,6 +1,6 @@
 // The classes of the tables.
-use fc_base::{CeId, FeId, Memory};
-use fc_blocks::open_blocks;
+use fc_base::{CeId, FeId, List, Memory};
+use fc_blocks::open_store;
 use fc_element::Element;
 use fc_lfbs::LiveState;
 use fc_library::library_from_slice;
@@ -69,14 +69,24 @@ fn first_controller() -> Result<CeId, Memory> {
     CeId::of(0x4000_0001).ok_or(Memory)
 }
 
-// What element 2 with these classes tells and holds, as it opens.
+// What element 2 with these classes holds as it opens, and tells of itself.
 pub(crate) fn opened(alloc: Global) -> Result<(LiveState, Store), Memory> {
     let id = element_id()?;
     let ce = first_controller()?;
-    match library_from_slice(alloc, DOCUMENT.as_bytes()) {
-        Ok((library, instances)) => open_blocks(alloc, id, ce, library, instances),
-        Err(_) => Err(Memory),
-    }
+    let store = match library_from_slice(alloc, DOCUMENT.as_bytes()) {
+        Ok((library, instances)) => open_store(alloc, library, instances)?,
+        Err(_) => return Err(Memory),
+    };
+    let live = LiveState {
+        id,
+        instances: List::from_slice(alloc, store.instances().pairs())?,
+        ce: ce.get(),
+        last_ce: 0,
+        epoch: 0,
+        master: 0,
+        transactions: List::new(alloc),
+    };
+    Ok((live, store))
 }
 
 // That element, which control element 40000001 is to configure.

@@ -39,6 +39,14 @@ impl StoreMark {
     {
         depth_at(&self.places, place)
     }
+
+    /// The same mark once more, for a look at what was held at it.
+    pub fn copy(&self) -> Result<StoreMark, Memory>
+        ensures { IfOk result (λ mark. mark ≡ self.now) }
+    {
+        let places = Vec::from_slice(*self.places.allocator(), &self.places)?;
+        Ok(StoreMark { places })
+    }
 }
 
 // The number that stands with a place.

@@ -1,16 +1,14 @@
 -- Of which events the messages tell that an element sends.
-use Rattle.std.proofs.Common.{◌≡◌, ℕ, Bool, true, false, cond, List, [], ◌∷◌, ◌++◌, append_assoc, map, Some, None, refl, sym, ap, subst, ◌∙◌}
+use Rattle.std.proofs.Common.{◌≡◌, ℕ, Bool, true, false, cond, List, [], ◌∷◌, ◌++◌, append_assoc, map, Option, Some, None, refl, sym, ap, subst, ◌∙◌}
 use Rattle.std.specs.FinMap.{entries}
 use Rattle.std.specs.List.{AllByRecursion, flat_map}
 use Rattle.std.specs.Ordering.{is_lt}
 use Rattle.fc_assoc.specs.Associations.{AssociationMap}
 use Rattle.fc_assoc.specs.declared.heard.Heard.{Heard}
-use Rattle.fc_element.specs.ElementMachine.{beaten, beating, beats_of, down_outs, has_lost, heartbeat_of, is_due, responses, turn}
+use Rattle.fc_element.specs.ElementMachine.{beaten, beating, beats_of, down_outs, has_lost, heartbeat_of, id_of, is_due, ledger_of, turn}
 use Rattle.fc_element.specs.ElementState.{ElementState}
-use Rattle.fc_element.specs.Notices.{down_to, listed, notice_message, notice_outs, peers_of, route, sent_if}
-use Rattle.fc_element.specs.Sending.{out}
-use Rattle.fc_element.specs.declared.input.Out.{Out}
-use Rattle.fc_element.specs.declared.notices.Route.{Route}
+use Rattle.fc_element.specs.Notices.{down_to, listed, peers_of}
+use Rattle.fc_element.proofs.Configured.{IsResponse}
 use Rattle.fc_element.proofs.Telling.{all_append}
 use Rattle.fc_events.specs.Events.{place}
 use Rattle.fc_events.specs.Order.{IsNotBefore, NeverFall, told_places}
@@ -21,11 +19,16 @@ use Rattle.fc_events.specs.declared.subscriptions.Notice.{Notice}
 use Rattle.fc_events.specs.declared.subscriptions.Subscription.{Subscription}
 use Rattle.fc_msg.specs.Messages.{message_fits}
 use Rattle.fc_msg.specs.declared.message.Message.{Message}
+use Rattle.fc_msg.specs.declared.message.MsgBody.TheVariants.{ConfigResponse}
 use Rattle.fc_path.specs.declared.oper.Select.{Select}
+use Rattle.fc_performing.specs.Notices.{notice_message, notice_outs, route, sent_if}
+use Rattle.fc_performing.specs.Sending.{out, responses}
+use Rattle.fc_performing.specs.declared.out.Out.{Out}
+use Rattle.fc_performing.specs.declared.out.Route.{Route}
 use Rattle.fc_reply.specs.Answered.{answered_selects}
 use Rattle.fc_reply.specs.Replies.{is_wanted, reply, response, with_selects}
 use Rattle.fc_types.specs.declared.class.Class.{Class}
-use Rattle.fc_telling.specs.ToldEvents.{told_by, told_out}
+use Rattle.fc_telling.specs.ToldEvents.{told_body, told_by, told_out}
 use Rattle.fc_wire.specs.Bytes.{u32_bytes}
 
 told_more : (xs ys : List Out) → told_by (xs ++ ys) ≡ told_by xs ++ told_by ys
@@ -61,6 +64,14 @@ reply_told peer m selects codes = with_told peer m codes (answered_selects selec
 
 pub reply_falls : (peer : ℕ) (m : Message) (selects : List Select) (codes : List ℕ) → NeverFall (told_by (responses peer (reply m selects codes)))
 reply_falls peer m selects codes = subst NeverFall (sym (reply_told peer m selects codes)) tt
+
+-- and one that was kept tells of none
+body_told : (r : Message) (selects : List Select) → r.body ≡ ConfigResponse selects → told_body r.body ≡ []
+body_told r selects e = ap told_body e
+
+pub kept_falls : (peer : ℕ) (o : Option Message) → IsResponse o → NeverFall (told_by (responses peer o))
+kept_falls peer None k = tt
+kept_falls peer (Some r) k = subst (λ (ps : List EventPlace). NeverFall (ps ++ [])) (sym (body_told r k.0 k.1)) tt
 
 -- a response, and then notices
 pub says_falls : (peer : ℕ) (m : Message) (selects : List Select) (codes : List ℕ) (library : List Class) (r : Route) (notices : List Notice) → NeverFall (told_places notices)
@@ -99,8 +110,8 @@ each_down id library subs (pair ∷ pairs) =
 all_down : (s : ElementState) (remaining : AssociationMap) → AllByRecursion IsDown (told_by (down_outs s remaining))
 all_down s remaining = by_lost (has_lost s remaining)
   where
-    by_lost : (b : Bool) → AllByRecursion IsDown (told_by (cond b (flat_map (down_to s.told.id s.store.library s.subscriptions) (peers_of remaining)) []))
-    by_lost true = each_down s.told.id s.store.library s.subscriptions (peers_of remaining)
+    by_lost : (b : Bool) → AllByRecursion IsDown (told_by (cond b (flat_map (down_to (id_of s) (ledger_of s).store.library (ledger_of s).subscriptions) (peers_of remaining)) []))
+    by_lost true = each_down (id_of s) (ledger_of s).store.library (ledger_of s).subscriptions (peers_of remaining)
     by_lost false = tt
 
 pub down_falls : (s : ElementState) (remaining : AssociationMap) → NeverFall (told_by (down_outs s remaining))
@@ -114,8 +125,8 @@ beats_told id (pair ∷ pairs) = beats_told id pairs
 beating_told : (w : ElementState) → told_by (beating w).outs ≡ []
 beating_told w = by_due (is_due w)
   where
-    by_due : (b : Bool) → told_by (cond b (turn (beaten w) (beats_of w.told.id w.associations)) (turn w [])).outs ≡ []
-    by_due true = beats_told w.told.id (entries w.associations)
+    by_due : (b : Bool) → told_by (cond b (turn (beaten w) (beats_of (id_of w) w.associations)) (turn w [])).outs ≡ []
+    by_due true = beats_told (id_of w) (entries w.associations)
     by_due false = refl
 
 pub moment_falls : (s : ElementState) (remaining : AssociationMap) (w : ElementState) → NeverFall (told_by (down_outs s remaining ++ (beating w).outs))

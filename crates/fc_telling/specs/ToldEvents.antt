@@ -1,7 +1,6 @@
 -- Of which events messages tell: RFC 5810, sections 7.8 and 7.1.6, on REPORT, and RFC 5812, section 4.8.5.
 use Rattle.std.specs.Prelude.{ℕ, List, [], ◌∷◌}
 use Rattle.std.specs.List.{flat_map}
-use Rattle.fc_element.specs.declared.input.Out.{Out}
 use Rattle.fc_events.specs.Events.{place}
 use Rattle.fc_events.specs.declared.subscriptions.EventPlace.{EventPlace}
 use Rattle.fc_msg.specs.declared.message.MsgBody.{MsgBody}
@@ -10,6 +9,7 @@ use Rattle.fc_path.specs.declared.oper.Oper.{Oper}
 use Rattle.fc_path.specs.declared.oper.Oper.TheVariants as oper
 use Rattle.fc_path.specs.declared.oper.Select.{Select}
 use Rattle.fc_path.specs.declared.path.PathData.{PathData}
+use Rattle.fc_performing.specs.declared.out.Out.{Out}
 
 -- IDs of steps tell of the event behind the base of the events, where they are these two
 abbrev pub told_at : ℕ → ℕ → List ℕ → List EventPlace

@@ -5,7 +5,7 @@ use Rattle.std.specs.Option.{option_map}
 use Rattle.std.proofs.lemmas.List.{map-append, take-append-drop, take_more}
 use Rattle.fc_hub.specs.Hubs.{Held, holds}
 use Rattle.fc_hub.specs.declared.event.Act.{Act}
-use Rattle.fc_element.specs.declared.input.Out.{Out}
+use Rattle.fc_performing.specs.declared.out.Out.{Out}
 use Rattle.fc_tool.specs.declared.acting.NodeStop.{NodeStop}
 use Rattle.fc_tool.specs.declared.acting.NodeStop.TheVariants.{HubFault, NoMemory}
 use Rattle.fc_tool.specs.Acting.{Acts, ActsUntil, AreLeft, acted}

@@ -4,39 +4,43 @@ use Rattle.std.proofs.KnownBytes.{Appends-nil}
 use Rattle.fc_base.specs.Causes.{Rose}
 use Rattle.fc_hub.specs.Hubs.{Held}
 use Rattle.fc_words.specs.declared.commands.Command.{Command}
-use Rattle.fc_words.specs.declared.commands.Command.TheVariants.{Show, Make, Element}
+use Rattle.fc_words.specs.declared.commands.Command.TheVariants.{Control, Element, Make, Show}
 use Rattle.fc_tool.specs.declared.element.ElementEnd.{ElementEnd}
 use Rattle.fc_tool.specs.declared.make.Made.{Made}
 use Rattle.fc_tool.specs.declared.show.Shown.{Shown}
-use Rattle.fc_tool.specs.declared.stops.Stop.{Stop}
+use Rattle.fc_endings.specs.declared.stops.Stop.{Stop}
 use Rattle.fc_tool.specs.declared.element.ElementEnd.TheVariants as end
 use Rattle.fc_tool.specs.declared.make.Made.TheVariants as made
 use Rattle.fc_tool.specs.declared.show.Shown.TheVariants as shown
-use Rattle.fc_tool.specs.declared.stops.Stop.TheVariants.{NoMemory, WriteFault}
+use Rattle.fc_endings.specs.declared.stops.Stop.TheVariants.{NoMemory, WriteFault}
 use Rattle.fc_tool.specs.ElementRun.{ElementEnds, element_status, is_unread as element_unread, is_unserved}
-use Rattle.fc_tool.specs.Endings.{EndCount}
+use Rattle.fc_endings.specs.Endings.{EndCount}
 use Rattle.fc_tool.specs.Make.{MakeEnds, is_unread as make_unread, make_status}
 use Rattle.fc_tool.specs.Run.{UsageEnds, usage_status}
 use Rattle.fc_tool.specs.Runs.{ElementRuns, MakeRuns, ShowRuns}
 use Rattle.fc_tool.specs.Show.{ShowEnds, is_unread as show_unread, status_of}
-use Rattle.fc_tool.specs.Stops.{SinkCount}
-use Rattle.fc_tool.proofs.Shows.{none_written, stops_here}
-use Rattle.fc_tool.proofs.Looking.{consumes_none}
+use Rattle.fc_endings.specs.Stops.{SinkCount}
+use Rattle.fc_endings.proofs.Endings.{none_written}
+use Rattle.fc_tool.proofs.Shows.{stops_here}
+use Rattle.fc_endings.proofs.Looking.{consumes_none}
 
 fe_of : Option Command → ℕ
 fe_of (Some (Element fe ce address connections turns)) = fe
+fe_of (Some (Control ce rounds connections turns addresses)) = 0
 fe_of (Some Show) = 0
 fe_of (Some Make) = 0
 fe_of None = 0
 
 ce_of : Option Command → ℕ
 ce_of (Some (Element fe ce address connections turns)) = ce
+ce_of (Some (Control ce rounds connections turns addresses)) = ce
 ce_of (Some Show) = 0
 ce_of (Some Make) = 0
 ce_of None = 0
 
 turns_of : Option Command → ℕ
 turns_of (Some (Element fe ce address connections turns)) = turns
+turns_of (Some (Control ce rounds connections turns addresses)) = turns
 turns_of (Some Show) = 0
 turns_of (Some Make) = 0
 turns_of None = 0
@@ -56,6 +60,29 @@ show_or_make meant one other = let same = sym one ∙ other in cc same
 
 pub element_or_make : (meant : Option Command) (fe ce : ℕ) (address : List ℕ) (connections turns : ℕ) → meant ≡ Some (Element fe ce address connections turns) → meant ≡ Some Make → ⊥
 element_or_make meant fe ce address connections turns one other = let same = sym one ∙ other in cc same
+
+addresses_of : Option Command → List (List ℕ)
+addresses_of (Some (Element fe ce address connections turns)) = []
+addresses_of (Some (Control ce rounds connections turns addresses)) = addresses
+addresses_of (Some Show) = []
+addresses_of (Some Make) = []
+addresses_of None = []
+
+pub one_control : (meant : Option Command) (ce : ℕ) (rounds : List ℕ) (connections turns : ℕ) (addresses : List (List ℕ)) (ce' : ℕ) (rounds' : List ℕ) (connections' turns' : ℕ) (addresses' : List (List ℕ))
+    → meant ≡ Some (Control ce rounds connections turns addresses) → meant ≡ Some (Control ce' rounds' connections' turns' addresses') → (ce ≡ ce') × (turns ≡ turns') × (addresses ≡ addresses')
+unfolding ce_of turns_of addresses_of
+one_control meant ce rounds connections turns addresses ce' rounds' connections' turns' addresses' one other =
+    let same = sym one ∙ other in (ap ce_of same, ap turns_of same, ap addresses_of same)
+
+pub show_or_control : (meant : Option Command) (ce : ℕ) (rounds : List ℕ) (connections turns : ℕ) (addresses : List (List ℕ)) → meant ≡ Some (Control ce rounds connections turns addresses) → meant ≡ Some Show → ⊥
+show_or_control meant ce rounds connections turns addresses one other = let same = sym one ∙ other in cc same
+
+pub make_or_control : (meant : Option Command) (ce : ℕ) (rounds : List ℕ) (connections turns : ℕ) (addresses : List (List ℕ)) → meant ≡ Some (Control ce rounds connections turns addresses) → meant ≡ Some Make → ⊥
+make_or_control meant ce rounds connections turns addresses one other = let same = sym one ∙ other in cc same
+
+pub element_or_control : (meant : Option Command) (ce : ℕ) (rounds : List ℕ) (connections turns : ℕ) (addresses : List (List ℕ)) (fe ce' : ℕ) (address : List ℕ) (connections' turns' : ℕ)
+    → meant ≡ Some (Control ce rounds connections turns addresses) → meant ≡ Some (Element fe ce' address connections' turns') → ⊥
+element_or_control meant ce rounds connections turns addresses fe ce' address connections' turns' one other = let same = sym one ∙ other in cc same
 
 -- ---- a run of a command
 

@@ -10,12 +10,12 @@ use Rattle.fc_tool.specs.declared.acting.NodeStop.{NodeStop}
 use Rattle.fc_tool.specs.declared.acting.NodeStop.TheVariants as node_stop
 use Rattle.fc_tool.specs.declared.element.ElementEnd.{ElementEnd}
 use Rattle.fc_tool.specs.declared.element.ElementEnd.TheVariants.{Done, HubFault, ReadFault, Refused, TooLong, Turns}
-use Rattle.fc_tool.specs.declared.input.Look.{Look}
-use Rattle.fc_tool.specs.declared.input.Look.TheVariants as look
+use Rattle.fc_endings.specs.declared.input.Look.{Look}
+use Rattle.fc_endings.specs.declared.input.Look.TheVariants as look
 use Rattle.fc_tool.specs.declared.serve.Served.{Served}
 use Rattle.fc_tool.specs.declared.serve.Served.TheVariants as served
-use Rattle.fc_tool.specs.declared.stops.Stop.{Stop}
-use Rattle.fc_tool.specs.declared.stops.Stop.TheVariants.{NoMemory}
+use Rattle.fc_endings.specs.declared.stops.Stop.{Stop}
+use Rattle.fc_endings.specs.declared.stops.Stop.TheVariants.{NoMemory}
 use Rattle.fc_tool.specs.Acting.{Broke, ServeEnds}
 use Rattle.fc_tool.specs.ElementNode.{NodeState, node, first_node, node_after, node_by, node_given}
 use Rattle.fc_types.specs.declared.class.Class.{Class}
@@ -26,8 +26,9 @@ use Rattle.fc_library.specs.Gives.{Gives}
 use Rattle.fc_library.specs.Refusals.{refusal_text}
 use Rattle.fc_library.specs.declared.fault.LibFault.{LibFault}
 use Rattle.fc_library.specs.declared.fault.LibFault.TheVariants as fault
-use Rattle.fc_tool.specs.ElementRun.{ActedSo, DocumentEnds, DocumentLacked, DocumentWent, ElementEnds, ElementLacked, ElementWent, HubLacked, IsRun, JudgedSo, LookEnds, MeansLibrary, RunEnds, RunWent, element_text, look_of, refused_text}
-use Rattle.fc_tool.proofs.Endings.{cut_short, finished_ends, widened}
+use Rattle.fc_endings.specs.Looks.{LookEnds}
+use Rattle.fc_tool.specs.ElementRun.{ActedSo, DocumentEnds, DocumentLacked, DocumentWent, ElementEnds, ElementLacked, ElementWent, HubLacked, IsRun, JudgedSo, MeansLibrary, RunEnds, RunWent, element_text, look_of, refused_text}
+use Rattle.fc_endings.proofs.Endings.{cut_short, finished_ends, widened}
 
 document_lacks : (limit id ce turns : ℕ) (bytes : List ℕ) (before left : Option (List ℕ)) (old new : Option Held) → LookEnds limit (Ok look.Whole) bytes before left
     → DocumentLacked id ce turns bytes old new → ElementLacked limit id ce turns before left old new
@@ -107,6 +108,10 @@ report_stops stop served.Turns n turns first last old new text now written (even
     (is ∙ ap (λ (m : NodeState). report_of m.element) (after ∙ ap (λ (m : NodeState). node_after m events) begun)) front
 
 -- memory lacked while the element was served
+pub run_breaks : (stop : NodeStop) (n : NodeState) (turns : ℕ) (first : NodeState) (old new : Option Held) (known : Option (List ℕ))
+    → (events : List HubEvent) × (length events < turns) × Broke stop old new first events → stop ≡ node_stop.HubFault → first ≡ n → RunEnds n turns (Ok HubFault) old new known known
+run_breaks stop n turns first old new known (events, few, broke) broken begun = ([], (events, tt, (few, rw (broken, begun) at broke), refl), Appends-nil known)
+
 pub run_lacks : (stop : NodeStop) (n : NodeState) (turns : ℕ) (first : NodeState) (old new : Option Held) (known : Option (List ℕ))
     → (events : List HubEvent) × (length events < turns) × Broke stop old new first events → stop ≡ node_stop.NoMemory → first ≡ n → RunEnds n turns (Err NoMemory) old new known known
 run_lacks stop n turns first old new known (events, few, broke) lacked begun = inr (inr (events, few, rw (lacked, begun) at broke), Appends-nil known)

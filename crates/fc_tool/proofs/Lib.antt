@@ -3,10 +3,8 @@ pub mod Bytes
 pub mod Commands
 pub mod Cut
 pub mod Ending
-mod Endings
 pub mod Hearing
 pub mod Judged
-pub mod Looking
 pub mod Making
 pub mod OpenPeers
 pub mod Outcomes

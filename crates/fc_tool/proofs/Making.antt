@@ -9,14 +9,14 @@ use Rattle.fc_text.specs.TextGrammar.{SpellsText}
 use Rattle.fc_text.specs.TextPlaces.{TextPlace}
 use Rattle.fc_text.specs.TextReading.{text_in}
 use Rattle.fc_text.specs.declared.fault.TextFault.TheVariants.{At}
-use Rattle.fc_tool.specs.declared.input.Look.TheVariants as look
+use Rattle.fc_endings.specs.declared.input.Look.TheVariants as look
 use Rattle.fc_tool.specs.declared.make.Made.{Made}
 use Rattle.fc_tool.specs.declared.make.Made.TheVariants.{Done, ReadFault, Refused, TooLong}
-use Rattle.fc_tool.specs.declared.stops.Stop.{Stop}
-use Rattle.fc_tool.specs.ElementRun.{LookEnds}
+use Rattle.fc_endings.specs.declared.stops.Stop.{Stop}
+use Rattle.fc_endings.specs.Looks.{LookEnds}
 use Rattle.fc_tool.specs.Make.{IsTextOf, IsTold, MakeEnds, MakeLacked, MakeWent, Makes, TextEnds, TextWent, bytes_of, look_of}
-use Rattle.fc_tool.proofs.Endings.{cut_short, finished_ends, widened}
-use Rattle.fc_tool.proofs.Outcomes.{read_twice, whole_long}
+use Rattle.fc_endings.proofs.Endings.{cut_short, finished_ends, widened}
+use Rattle.fc_endings.proofs.Looking.{read_twice, whole_long}
 
 -- ---- the text
 

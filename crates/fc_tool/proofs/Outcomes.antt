@@ -3,13 +3,10 @@ use Rattle.std.proofs.Common.{◌≡◌, ℕ, List, length, refl, sym, ap, subst
 use Rattle.fc_hub.specs.Hubs.{Held}
 use Rattle.fc_tool.specs.declared.element.ElementEnd.{ElementEnd}
 use Rattle.fc_tool.specs.declared.element.ElementEnd.TheVariants.{Done, ReadFault, HubFault, Refused, Turns, TooLong}
-use Rattle.fc_tool.specs.declared.input.Look.TheVariants as look
-use Rattle.fc_tool.specs.ElementRun.{ElementEnds, IsOutcome, LookEnds, MeansLibrary, MeansNone}
-use Rattle.fc_tool.proofs.Verdicts.{all_read, front_read}
-
--- an input that is read whole is read whole once
-pub read_twice : (limit : ℕ) (bytes one two : List ℕ) (l k : Option (List ℕ)) → LookEnds limit (Ok look.Whole) one (Some bytes) l → LookEnds limit (Ok look.Whole) two (Some bytes) k → one ≡ two
-read_twice limit bytes one two l k (consumed, end, le) (read, finish, short) = sym (all_read bytes one l consumed end) ∙ all_read bytes two k read finish
+use Rattle.fc_endings.specs.declared.input.Look.TheVariants as look
+use Rattle.fc_endings.specs.Looks.{LookEnds}
+use Rattle.fc_tool.specs.ElementRun.{ElementEnds, IsOutcome, MeansLibrary, MeansNone}
+use Rattle.fc_endings.proofs.Looking.{read_twice, whole_long}
 
 -- a document means a library or none
 either_means : (bytes : List ℕ) → MeansLibrary bytes → MeansNone bytes → ⊥
@@ -18,12 +15,6 @@ either_means bytes (given, is) (fault, refused) = let same = sym is ∙ refused 
 pub library_or_none : (limit : ℕ) (bytes one two : List ℕ) (l k : Option (List ℕ)) → LookEnds limit (Ok look.Whole) one (Some bytes) l → LookEnds limit (Ok look.Whole) two (Some bytes) k
     → MeansLibrary one → MeansNone two → ⊥
 library_or_none limit bytes one two l k read other means none = either_means two (subst MeansLibrary (read_twice limit bytes one two l k read other) means) none
-
-pub whole_long : (limit : ℕ) (bytes one two : List ℕ) (l k : Option (List ℕ)) → LookEnds limit (Ok look.Whole) one (Some bytes) l → LookEnds limit (Ok look.TooLong) two (Some bytes) k → ⊥
-whole_long limit bytes one two l k (consumed, end, le) (consumes, long) =
-    let same = all_read bytes one l consumed end in
-    let (more, split) = front_read bytes two k consumes in
-    absurd (omega (arith, ap length same, ap length split, length-append two more))
 
 over_turns : (limit id ce turns : ℕ) (bytes : List ℕ) (held : Held) (l k : Option (List ℕ)) (new other : Option Held) (o p n m : Option (List ℕ))
     → ElementEnds limit id ce turns (Ok Done) (Some bytes) l (Some held) new o n → ElementEnds limit id ce turns (Ok Turns) (Some bytes) k (Some held) other p m → ⊥

@@ -10,21 +10,16 @@ use Rattle.fc_hub.specs.declared.event.HubEvent.TheVariants.{Bytes}
 use Rattle.fc_library.specs.Documents.{library_of}
 use Rattle.fc_tool.specs.declared.element.ElementEnd.{ElementEnd}
 use Rattle.fc_tool.specs.declared.element.ElementEnd.TheVariants.{Done, ReadFault, HubFault, Refused, Turns, TooLong}
-use Rattle.fc_tool.specs.declared.stops.Stop.{Stop}
+use Rattle.fc_endings.specs.declared.stops.Stop.{Stop}
 use Rattle.fc_tool.specs.Acting.{Went}
 use Rattle.fc_tool.specs.ElementNode.{NodeState, acts_of, node_after, node_by}
 use Rattle.fc_tool.specs.ElementRun.{ElementEnds, refused_text, report_after}
 use Rattle.fc_tool.specs.Pieces.{MakeTheSame, unnumbered}
 use Rattle.fc_tool.specs.RunsAlike.{EndAlike, IsRunOut, acts_held}
-use Rattle.fc_tool.proofs.Outcomes.{library_or_none, read_twice, whole_long}
+use Rattle.fc_tool.proofs.Outcomes.{library_or_none}
 use Rattle.fc_tool.proofs.Runs.{run_alike}
-use Rattle.fc_tool.proofs.Verdicts.{all_read}
-
--- the same was appended to the same
-same_text : (old : List ℕ) (new other : Option (List ℕ)) (s t : List ℕ) → Appends (Some old) new s → Appends (Some old) other t → s ≡ t → new ≡ other
-same_text old None other s t one two is = absurd one
-same_text old (Some new) None s t one two is = absurd two
-same_text old (Some new) (Some other) s t one two is = ap Some (one ∙ ap (λ l. old ++ l) is ∙ sym two)
+use Rattle.fc_endings.proofs.Endings.{same_text}
+use Rattle.fc_endings.proofs.Looking.{all_read, read_twice, whole_long}
 
 -- the acts that were done before, and those of all events
 acts_went : (coming events : List HubEvent) (taken : ℕ) (n : NodeState) (done : List (ℕ × Act)) (new : Option Held) → coming ≡ events

@@ -8,25 +8,19 @@ use Rattle.fc_base.specs.Content.{AppendsFront}
 use Rattle.fc_msg.specs.declared.message.Message.{Message}
 use Rattle.fc_wire.specs.Frames.{frame_len, joined, IsPartial}
 use Rattle.fc_msg.specs.declared.fault.Refusal.{Refusal}
+use Rattle.fc_endings.proofs.Endings.{none_written, whole_front}
 use Rattle.fc_tool.specs.declared.show.Shown.{Shown}
 use Rattle.fc_tool.specs.declared.show.Shown.TheVariants.{Done, ReadFault, Refused, TooLong}
-use Rattle.fc_tool.specs.declared.stops.Stop.{Stop}
+use Rattle.fc_endings.specs.declared.stops.Stop.{Stop}
 use Rattle.fc_tool.specs.Text.{refusal_text}
 use Rattle.fc_tool.specs.Show.{Reaches, text_of, IsNextText, StoppedAt, PieceEnds, RestEnds, ShowEnds}
 use Rattle.fc_tool.proofs.Reaching.{reaches_fed, reaches_on}
 
 -- ---- what was written
 
--- nothing was written
-pub none_written : (known : Option (List ℕ)) (text : List ℕ) → AppendsFront known known text
-none_written known text = ([], text, refl, Appends-nil known)
-
 pub front_after : (a b c : Option (List ℕ)) (xs ys : List ℕ) → Appends a b xs → AppendsFront b c ys → AppendsFront a c (xs ++ ys)
 front_after a b c xs ys first then_front =
     (xs ++ then_front.0, then_front.1, rw append_assoc (ap (λ l. xs ++ l) then_front.2), Appends-trans a b c xs then_front.0 first then_front.3)
-
-pub whole_front : (a b : Option (List ℕ)) (xs : List ℕ) → Appends a b xs → AppendsFront a b xs
-whole_front a b xs lines = (xs, [], sym (append-nil xs), lines)
 
 front_kept : (a b c : Option (List ℕ)) (xs : List ℕ) → AppendsFront a b xs → Keeps b c → AppendsFront a c xs
 front_kept a b c xs (front, back, split, first) kept = (front, back, split, Appends-kept a b c front first kept)

@@ -10,6 +10,7 @@ use Rattle.fc_msg.specs.declared.message.Message.{Message}
 use Rattle.fc_wire.specs.Frames.{frame_len, IsFrame, IsPartial, joined, Frames}
 use Rattle.fc_wire.proofs.Cutting.{cut_once, cut_exists, cut_frame}
 use Rattle.fc_msg.specs.declared.fault.Refusal.{Refusal}
+use Rattle.fc_endings.proofs.Looking.{all_read, front_read}
 use Rattle.fc_tool.specs.declared.show.Shown.{Shown}
 use Rattle.fc_tool.specs.declared.show.Shown.TheVariants.{Done, ReadFault, Refused, TooLong}
 use Rattle.fc_msg.specs.Faults.{fault_of}
@@ -61,14 +62,6 @@ no_refusal bytes more hs ks rest last fault there le refused whole partial =
     never_both frame beat.0 fault beat.1 refused
 
 -- ---- what was read of known bytes
-
-pub all_read : (bytes read : List ℕ) (left : Option (List ℕ)) → Consumes (Some bytes) left read → IsAtEnd left → bytes ≡ read
-all_read bytes read None consumed end = absurd consumed
-all_read bytes read (Some xs) consumed end = consumed ∙ ap (λ l. read ++ l) end ∙ append-nil read
-
-pub front_read : (bytes read : List ℕ) (left : Option (List ℕ)) → Consumes (Some bytes) left read → (more : List ℕ) × (bytes ≡ read ++ more)
-front_read bytes read None consumed = absurd consumed
-front_read bytes read (Some xs) consumed = (xs, consumed)
 
 looked_front : (limit : ℕ) (bytes read more : List ℕ) → bytes ≡ read ++ more → (rest : List ℕ) × (take limit bytes ≡ take limit read ++ rest)
 looked_front limit bytes read more is =

@@ -11,7 +11,7 @@ use Rattle.fc_msg.specs.declared.message.Message.{Message}
 use Rattle.fc_msg.specs.Messages.{canonical}
 use Rattle.fc_msg.specs.Reading.{message_in}
 use Rattle.fc_element.specs.declared.input.ElIn.TheVariants.{Opened, Arrived, Closed, Moment}
-use Rattle.fc_element.specs.declared.input.Out.{Out}
+use Rattle.fc_performing.specs.declared.out.Out.{Out}
 use Rattle.fc_element.specs.ElementMachine.{Turn, step}
 use Rattle.fc_element.specs.ElementState.{ElementState, opened, state_code}
 use Rattle.fc_library.specs.Documents.{library_of}

@@ -1,10 +1,8 @@
 -- What `element` reads, does on its hub and writes, by how it ends. This profile's own.
 use Rattle.std.specs.Prelude.{◌≡◌, ◌⊎◌, ◌<◌, ◌≤◌, ◌+◌, ℕ, Bool, true, false, List, [], length, codes, Option, Result, Ok, Err, ⊤}
 use Rattle.std.specs.Io.KnownBytes.{Consumes, IsAtEnd}
-use Rattle.fc_base.specs.Causes.{Rose}
 use Rattle.fc_hub.specs.Hubs.{Held}
 use Rattle.fc_hub.specs.declared.event.HubEvent.{HubEvent}
-use Rattle.fc_base.specs.declared.faults.Memory.{Memory}
 use Rattle.fc_element.specs.Reports.{report_of}
 use Rattle.fc_library.specs.Documents.{library_of}
 use Rattle.fc_library.specs.Refusals.{refusal_text}
@@ -12,28 +10,15 @@ use Rattle.fc_library.specs.declared.fault.LibFault.{LibFault}
 use Rattle.fc_types.specs.declared.class.Class.{Class}
 use Rattle.fc_tool.specs.declared.element.ElementEnd.{ElementEnd}
 use Rattle.fc_tool.specs.declared.element.ElementEnd.TheVariants.{Done, ReadFault, HubFault, Refused, Turns, TooLong}
-use Rattle.fc_tool.specs.declared.input.Look.{Look}
-use Rattle.fc_tool.specs.declared.input.Look.TheVariants as look
-use Rattle.fc_tool.specs.declared.stops.Stop.{Stop}
+use Rattle.fc_endings.specs.declared.input.Look.{Look}
+use Rattle.fc_endings.specs.declared.input.Look.TheVariants as look
+use Rattle.fc_endings.specs.declared.stops.Stop.{Stop}
 use Rattle.fc_tool.specs.declared.acting.NodeStop.TheVariants as stop
 use Rattle.fc_tool.specs.Acting.{AreAll, Broke, Went}
 use Rattle.fc_tool.specs.ElementNode.{NodeState, node_after, node_by}
-use Rattle.fc_tool.specs.Endings.{CommandEnds}
-use Rattle.fc_tool.specs.Stops.{stop_status}
-
--- What was seen of an input of which so many bytes are looked at, and which of its bytes were read: it was read whole, it is
--- longer, it can't be read.
-abbrev pub LookEnds : ℕ → Result Look Memory → List ℕ → Option (List ℕ) → Option (List ℕ) → Type 0
-LookEnds limit (Ok look.Whole) bytes before left = Consumes before left bytes × IsAtEnd left × (length bytes ≤ limit)
-LookEnds limit (Ok look.TooLong) bytes before left = Consumes before left bytes × (length bytes ≡ limit + 1)
-LookEnds limit (Ok look.ReadFault) bytes before left = Consumes before left bytes × (length bytes ≤ limit)
-LookEnds limit (Err e) bytes before left = Consumes before left bytes × (length bytes ≤ limit)
-
-abbrev pub LookCount : Result Look Memory → ℕ → ℕ → Type 0
-LookCount (Ok look.ReadFault) before now = Rose before now
-LookCount (Ok look.Whole) before now = now ≡ before
-LookCount (Ok look.TooLong) before now = now ≡ before
-LookCount (Err e) before now = now ≡ before
+use Rattle.fc_endings.specs.Endings.{CommandEnds}
+use Rattle.fc_endings.specs.Looks.{LookEnds}
+use Rattle.fc_endings.specs.Stops.{stop_status}
 
 -- the bytes are a document that means a library
 abbrev pub MeansLibrary : List ℕ → Type 0

@@ -1,8 +1,6 @@
 pub mod Acting
 pub mod ElementNode
 pub mod ElementRun
-pub mod Endings
-pub mod Limits
 pub mod Make
 pub mod Nexts
 pub mod OpenPeers
@@ -11,6 +9,5 @@ pub mod Run
 pub mod Runs
 pub mod RunsAlike
 pub mod Show
-pub mod Stops
 pub mod Streams
 pub mod Text

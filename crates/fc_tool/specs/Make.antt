@@ -8,14 +8,14 @@ use Rattle.fc_text.specs.FirstMisfit.{FirstMisfit, FitsMessages, IsWithin, TooLo
 use Rattle.fc_text.specs.TextGrammar.{SpellsText}
 use Rattle.fc_text.specs.TextPlaces.{TextPlace}
 use Rattle.fc_text.specs.TextReading.{text_in}
-use Rattle.fc_tool.specs.declared.input.Look.{Look}
-use Rattle.fc_tool.specs.declared.input.Look.TheVariants as look
+use Rattle.fc_endings.specs.declared.input.Look.{Look}
+use Rattle.fc_endings.specs.declared.input.Look.TheVariants as look
 use Rattle.fc_tool.specs.declared.make.Made.{Made}
 use Rattle.fc_tool.specs.declared.make.Made.TheVariants.{Done, ReadFault, Refused, TooLong}
-use Rattle.fc_tool.specs.declared.stops.Stop.{Stop}
-use Rattle.fc_tool.specs.ElementRun.{LookEnds}
-use Rattle.fc_tool.specs.Endings.{CommandEnds}
-use Rattle.fc_tool.specs.Stops.{stop_status}
+use Rattle.fc_endings.specs.declared.stops.Stop.{Stop}
+use Rattle.fc_endings.specs.Looks.{LookEnds}
+use Rattle.fc_endings.specs.Endings.{CommandEnds}
+use Rattle.fc_endings.specs.Stops.{stop_status}
 
 -- the canonical bytes of the messages
 abbrev pub bytes_of : List Message → List ℕ

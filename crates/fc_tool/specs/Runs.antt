@@ -5,7 +5,7 @@ use Rattle.fc_hub.specs.Hubs.{Held}
 use Rattle.fc_tool.specs.declared.element.ElementEnd.{ElementEnd}
 use Rattle.fc_tool.specs.declared.make.Made.{Made}
 use Rattle.fc_tool.specs.declared.show.Shown.{Shown}
-use Rattle.fc_tool.specs.declared.stops.Stop.{Stop}
+use Rattle.fc_endings.specs.declared.stops.Stop.{Stop}
 use Rattle.fc_tool.specs.ElementRun.{ElementEnds, element_status}
 use Rattle.fc_tool.specs.Make.{MakeEnds, make_status}
 use Rattle.fc_tool.specs.Show.{ShowEnds, status_of}

@@ -4,7 +4,7 @@ use Rattle.fc_hub.specs.Hubs.{Held}
 use Rattle.fc_hub.specs.declared.event.Act.{Act}
 use Rattle.fc_tool.specs.declared.element.ElementEnd.{ElementEnd}
 use Rattle.fc_tool.specs.declared.element.ElementEnd.TheVariants.{Done, ReadFault, HubFault, Refused, Turns, TooLong}
-use Rattle.fc_tool.specs.declared.stops.Stop.{Stop}
+use Rattle.fc_endings.specs.declared.stops.Stop.{Stop}
 use Rattle.fc_tool.specs.ElementRun.{element_status}
 use Rattle.fc_tool.specs.Pieces.{unnumbered}
 

@@ -11,8 +11,8 @@ use Rattle.fc_msg.specs.declared.message.Message.{Message}
 use Rattle.fc_text.specs.Text.{message_text}
 use Rattle.fc_tool.specs.declared.show.Shown.{Shown}
 use Rattle.fc_tool.specs.declared.show.Shown.TheVariants.{Done, ReadFault, Refused, TooLong}
-use Rattle.fc_tool.specs.declared.stops.Stop.{Stop}
-use Rattle.fc_tool.specs.Stops.{stop_status}
+use Rattle.fc_endings.specs.declared.stops.Stop.{Stop}
+use Rattle.fc_endings.specs.Stops.{stop_status}
 use Rattle.fc_tool.specs.Text.{refusal_text}
 
 -- each frame spells the message

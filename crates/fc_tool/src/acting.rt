@@ -1,7 +1,7 @@
 // The acts of a node on its hub.
 ghost use Rattle.std.specs.Prelude.{◌≡◌, true, [], ◌∷◌, OnOk, OnErr, IfErr};
 ghost use Rattle.std.specs.List.{AllByRecursion};
-ghost use Rattle.fc_element.specs.ElementMachine.{CanBeSent};
+ghost use Rattle.fc_performing.specs.Sending.{CanBeSent};
 ghost use Rattle.fc_hub.specs.declared.event.Act.TheVariants.{Sent, Shut};
 ghost use Rattle.fc_msg.specs.Messages.{canonical, message_fits};
 ghost use Rattle.fc_tool.specs.Acting.{Acts, ActsUntil, HubCount};

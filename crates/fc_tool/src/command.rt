@@ -1,39 +1,45 @@
 // The top call of the program.
-ghost use Rattle.std.specs.Prelude.{◌≡◌, ◌≢◌, ◌⊎◌, ◌+◌, ℕ, List, None, Some, Result, map, string_bytes};
+ghost use Rattle.std.specs.Prelude.{◌≡◌, ◌≢◌, ◌⊎◌, ◌+◌, ◌-◌, ◌^◌, ◌<◌, ◌≤◌, ℕ, List, None, Some, Result, map, string_bytes};
 ghost use Rattle.fc_base.specs.Causes.{Rose};
 ghost use Rattle.fc_base.specs.Content.{IsFlushed};
 ghost use Rattle.fc_words.specs.Commands.{command_of};
 ghost use Rattle.fc_words.specs.declared.commands.Command.TheVariants as meant;
-ghost use Rattle.fc_tool.specs.declared.stops.Stop.{Stop};
+ghost use Rattle.fc_endings.specs.declared.stops.Stop.{Stop};
+ghost use Rattle.fc_controlling.specs.ControlRun.{control_status};
+ghost use Rattle.fc_controlling.specs.Runs.{ControlRuns};
 ghost use Rattle.fc_tool.specs.ElementRun.{element_status};
-ghost use Rattle.fc_tool.specs.Limits.{most_bytes};
+ghost use Rattle.fc_endings.specs.Limits.{most_bytes};
 ghost use Rattle.fc_tool.specs.Make.{make_status};
-ghost use Rattle.fc_tool.specs.Run.{UsageEnds, usage_status};
+ghost use Rattle.fc_tool.specs.Run.{UsageEnds, asked_for, usage_status};
 ghost use Rattle.fc_tool.specs.Runs.{ElementRuns, MakeRuns, ShowRuns};
 ghost use Rattle.fc_tool.specs.Show.{status_of};
-ghost use Rattle.fc_tool.specs.Stops.{FlushedAt, SinkCount};
+ghost use Rattle.fc_endings.specs.Stops.{FlushedAt, SinkCount};
 
 use crate::element::{ElementEnd, element};
 use crate::make::{Made, make};
 use crate::show::{Shown, show};
 use crate::status::{
-    DONE, HUB_FAULT, NO_COMMAND, NO_MEMORY, NO_MESSAGE, READ_FAULT, REFUSED, TOO_LONG, TURNS,
-    WRITE_FAULT,
+    DEPOSED, DONE, HUB_FAULT, NO_COMMAND, NO_MEMORY, NO_MESSAGE, NO_ROUND, READ_FAULT, REFUSED,
+    TOO_LONG, TURNS, UNFINISHED, WRITE_FAULT,
 };
-use crate::stops::{Stop, finish, put};
-use fc_base::{Sink, Source};
-use fc_hub::Hub;
+use fc_base::{CeId, List, Sink, Source, Text};
+use fc_controlling::{Asked, ControlEnd, control};
+use fc_endings::{Stop, finish, put};
+use fc_hub::{Hub, Rounds};
 use fc_words::{Command, WordFault, command};
 use std::alloc::Global;
 
 /// Does what the words say, and gives the status of the program.
-pub fn run<S: Source, K: Sink, H: Hub>(
+pub fn run<S: Source, K: Sink, H: Hub, R: Rounds>(
     alloc: Global,
     words: &[String],
     input: &mut S,
     out: &mut K,
     hub: &mut H,
+    rounds: &mut R,
 ) -> u8
+    requires { (R.given rounds.old).count < 2 ^ 64 - 1 }
+
     // The status is 1 exactly where the words are no command, unless the line can't be written; then nothing is read.
     ensures no_command { result ≡ NO_COMMAND → command_of (map string_bytes words.now) ≡ None }
     ensures usage { command_of (map string_bytes words.now) ≡ None
@@ -52,17 +58,28 @@ pub fn run<S: Source, K: Sink, H: Hub>(
         → ElementRuns most_bytes fe ce turns result (S.left input.old) (S.left input.new) (H.held hub.old) (H.held hub.new) (K.written out.old) (K.written out.new)
         (Rose (S.faults input.old) (S.faults input.new)) (Rose (K.faults out.old) (K.faults out.new)) (Rose (H.faults hub.old) (H.faults hub.new)) }
 
-    // Only `element` uses the hub.
-    ensures hub { ((fe ce : ℕ) (address : List ℕ) (connections turns : ℕ)
-        → command_of (map string_bytes words.now) ≡ Some (meant.Element fe ce address connections turns) → ⊥) → hub.new ≡ hub.old }
+    ensures control { (ce : ℕ) (rounds_file : List ℕ) (connections turns : ℕ) (addresses : List (List ℕ))
+        → command_of (map string_bytes words.now) ≡ Some (meant.Control ce rounds_file connections turns addresses)
+        → ControlRuns most_bytes (asked_for ce turns addresses) result (S.left input.old) (S.left input.new) (R.given rounds.old) (R.given rounds.new) (H.held hub.old) (H.held hub.new) (K.written out.old) (K.written out.new)
+        (Rose (S.faults input.old) (S.faults input.new)) (Rose (K.faults out.old) (K.faults out.new)) (Rose (H.faults hub.old) (H.faults hub.new)) (Rose (R.faults rounds.old) (R.faults rounds.new)) }
 
-    // A fault of reading, of writing or of the hub comes only where the count rose.
+    // Only `element` and `control` use the hub, and only `control` the rounds, of which it takes one number at most.
+    ensures hub { ((fe ce : ℕ) (address : List ℕ) (connections turns : ℕ)
+        → command_of (map string_bytes words.now) ≡ Some (meant.Element fe ce address connections turns) → ⊥)
+        → ((ce : ℕ) (rounds_file : List ℕ) (connections turns : ℕ) (addresses : List (List ℕ))
+        → command_of (map string_bytes words.now) ≡ Some (meant.Control ce rounds_file connections turns addresses) → ⊥) → hub.new ≡ hub.old }
+    ensures rounds { ((ce : ℕ) (rounds_file : List ℕ) (connections turns : ℕ) (addresses : List (List ℕ))
+        → command_of (map string_bytes words.now) ≡ Some (meant.Control ce rounds_file connections turns addresses) → ⊥) → rounds.new ≡ rounds.old }
+    ensures one_round { (R.given rounds.new).count ≤ (R.given rounds.old).count + 1 }
+
+    // A fault of reading, of writing, of the hub or of the rounds comes only where the count rose.
     ensures read_fault { result ≡ READ_FAULT → Rose (S.faults input.old) (S.faults input.new) }
     ensures write_fault { result ≡ WRITE_FAULT → Rose (K.faults out.old) (K.faults out.new) }
-    ensures hub_fault { result ≡ HUB_FAULT → Rose (H.faults hub.old) (H.faults hub.new) }
+    ensures hub_fault { result ≡ HUB_FAULT → Rose (H.faults hub.old) (H.faults hub.new) ⊎ Rose (R.faults rounds.old) (R.faults rounds.new) }
     ensures source_steady { result ≢ READ_FAULT → result ≢ WRITE_FAULT → result ≢ NO_MEMORY → S.faults input.new ≡ S.faults input.old }
     ensures sink_steady { result ≢ WRITE_FAULT → K.faults out.new ≡ K.faults out.old }
     ensures hub_steady { result ≢ HUB_FAULT → result ≢ WRITE_FAULT → result ≢ NO_MEMORY → H.faults hub.new ≡ H.faults hub.old }
+    ensures rounds_steady { result ≢ HUB_FAULT → result ≢ WRITE_FAULT → result ≢ NO_MEMORY → R.faults rounds.new ≡ R.faults rounds.old }
 
     // All that was written is flushed, or where the writing stopped so much as was before.
     ensures flushed { result ≢ WRITE_FAULT → result ≢ NO_MEMORY → IsFlushed (K.written out.new) (K.flushed out.new) }
@@ -79,6 +96,26 @@ pub fn run<S: Source, K: Sink, H: Hub>(
         Command::Element { fe, ce, turns, .. } => {
             element_status(element(alloc, fe, ce, turns, input, out, hub))
         }
+        Command::Control {
+            ce,
+            turns,
+            addresses,
+            ..
+        } => {
+            let asked = asked_of(ce, turns, &addresses);
+            control_status(control(alloc, &asked, input, out, hub, rounds))
+        }
+    }
+}
+
+// What the words of `control` ask for.
+fn asked_of(ce: CeId, turns: u32, addresses: &List<Text>) -> Asked
+    ensures { result ≡ asked_for ce turns addresses.now }
+{
+    Asked {
+        ce,
+        turns,
+        addresses: addresses.len(),
     }
 }
 
@@ -137,6 +174,25 @@ fn element_status(how: Result<ElementEnd, Stop>) -> u8
         Ok(ElementEnd::Refused) => REFUSED,
         Ok(ElementEnd::Turns) => TURNS,
         Ok(ElementEnd::TooLong) => TOO_LONG,
+        Err(Stop::WriteFault) => WRITE_FAULT,
+        Err(Stop::NoMemory) => NO_MEMORY,
+    }
+}
+
+fn control_status(how: Result<ControlEnd, Stop>) -> u8
+    ensures { result ≡ control_status how }
+{
+    match how {
+        Ok(ControlEnd::Done) => DONE,
+        Ok(ControlEnd::ReadFault) => READ_FAULT,
+        Ok(ControlEnd::HubFault) => HUB_FAULT,
+        Ok(ControlEnd::RoundsFault) => HUB_FAULT,
+        Ok(ControlEnd::Refused) => REFUSED,
+        Ok(ControlEnd::Unfinished) => UNFINISHED,
+        Ok(ControlEnd::Deposed) => DEPOSED,
+        Ok(ControlEnd::Turns) => TURNS,
+        Ok(ControlEnd::NoRound) => NO_ROUND,
+        Ok(ControlEnd::TooLong) => TOO_LONG,
         Err(Stop::WriteFault) => WRITE_FAULT,
         Err(Stop::NoMemory) => NO_MEMORY,
     }

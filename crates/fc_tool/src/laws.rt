@@ -9,7 +9,7 @@ ghost use Rattle.fc_msg.specs.declared.fault.Refusal.{Refusal};
 ghost use Rattle.fc_msg.specs.declared.message.Message.{Message};
 ghost use Rattle.fc_tool.specs.declared.make.Made.{Made};
 ghost use Rattle.fc_tool.specs.declared.show.Shown.{Shown};
-ghost use Rattle.fc_tool.specs.declared.stops.Stop.{Stop};
+ghost use Rattle.fc_endings.specs.declared.stops.Stop.{Stop};
 ghost use Rattle.fc_hub.specs.Hubs.{Held, holds};
 ghost use Rattle.fc_hub.specs.declared.event.Act.{Act};
 ghost use Rattle.fc_hub.specs.declared.event.HubEvent.{HubEvent};

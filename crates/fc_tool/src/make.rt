@@ -3,14 +3,13 @@ ghost use Rattle.std.specs.Prelude.{◌≡◌, OnOk, OnErr, IfOk, string_bytes};
 ghost use Rattle.std.specs.Io.KnownBytes.{Appends};
 ghost use Rattle.fc_base.specs.Content.{AppendsFront};
 ghost use Rattle.fc_text.specs.TextPlaces.{place};
-ghost use Rattle.fc_tool.specs.Endings.{EndCount};
-ghost use Rattle.fc_tool.specs.Limits.{most_bytes};
+ghost use Rattle.fc_endings.specs.Endings.{EndCount};
+ghost use Rattle.fc_endings.specs.Limits.{most_bytes};
 ghost use Rattle.fc_tool.specs.Make.{MakeEnds, TextEnds, is_unread, text_refusal};
-ghost use Rattle.fc_tool.specs.Stops.{FlushedAt, SinkCount};
+ghost use Rattle.fc_endings.specs.Stops.{FlushedAt, SinkCount};
 
-use crate::input::{Look, look_over};
-use crate::stops::{Stop, finished, put};
 use fc_base::{Memory, Sink, Source};
+use fc_endings::{Look, Stop, finished, look_over, put};
 use fc_text::{TextFault, make_bytes};
 use std::alloc::Global;
 

@@ -1,16 +1,15 @@
 // Reads frames and writes the text of each.
 ghost use Rattle.std.specs.Prelude.{◌≡◌, ◌≢◌, ◌≤◌, ◌<◌, ◌^◌, ◌++◌, ◌+◌, ◌-◌, is_ok, if◌then◌else◌, None, length, IfOk};
 ghost use Rattle.fc_wire.specs.Frames.{IsPartial};
-ghost use Rattle.fc_tool.specs.Endings.{EndCount};
-ghost use Rattle.fc_tool.specs.Limits.{most_bytes};
+ghost use Rattle.fc_endings.specs.Endings.{EndCount};
+ghost use Rattle.fc_endings.specs.Limits.{most_bytes};
 ghost use Rattle.fc_tool.specs.Show.{PieceEnds, RestEnds, ShowEnds, is_unread};
-ghost use Rattle.fc_tool.specs.Stops.{FlushedAt, SinkCount};
+ghost use Rattle.fc_endings.specs.Stops.{FlushedAt, SinkCount};
 
 use crate::frames::push_frames;
-use crate::input::{LIMIT, READS, next_piece};
 use crate::line::refusal_line;
-use crate::stops::{Stop, finished, put};
 use fc_base::{Memory, Sink, Source, Trouble};
+use fc_endings::{LIMIT, READS, Stop, finished, next_piece, put};
 use fc_msg::{Refusal, Splitter, headed};
 use std::alloc::Global;
 

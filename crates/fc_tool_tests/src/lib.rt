@@ -2,6 +2,8 @@
 #![tactic(auto)]
 
 #[cfg(test)]
+mod controlling;
+#[cfg(test)]
 mod limits;
 #[cfg(test)]
 mod making;

@@ -1,6 +1,6 @@
 // The program is run over sources and sinks in memory.
 use fc_base::{Sink, Source, SureSink, SureSource};
-use fc_hub::SureHub;
+use fc_hub::{SureHub, SureRounds};
 use fc_tool::run;
 use std::alloc::{AllocError, Global};
 use std::test::Fail;
@@ -71,7 +71,8 @@ pub(crate) fn run_without_hub<S: Source, K: Sink>(
     out: &mut K,
 ) -> u8 {
     let mut hub = SureHub::new(alloc, Vec::new(alloc));
-    run(alloc, words, input, out, &mut hub)
+    let mut rounds = SureRounds::new(1);
+    run(alloc, words, input, out, &mut hub, &mut rounds)
 }
 
 // The status of a command over these bytes in pieces, and what it wrote.

@@ -5,7 +5,7 @@ ghost use Rattle.fc_hub.specs.Hubs.{is_given};
 
 use crate::running::{failing, words};
 use fc_base::{Octets, SureSink, SureSource};
-use fc_hub::{Act, HubEvent, MemHub, SureHub};
+use fc_hub::{Act, HubEvent, MemHub, SureHub, SureRounds};
 use fc_tool::run;
 use std::alloc::Global;
 use std::test::Fail;
@@ -30,7 +30,7 @@ const ANSWER: [u8; 24] = [
 const REPORT: &str = "element 2 epoch 0 ce 40000001 sequence 0\n";
 
 // Whether a hub may tell each of these events.
-fn are_given(events: &[HubEvent]) -> bool
+pub(crate) fn are_given(events: &[HubEvent]) -> bool
     ensures { result ≡ list_all is_given events.now }
 {
     'events: for event in events {
@@ -51,7 +51,7 @@ fn is_given(event: &HubEvent) -> bool
     }
 }
 
-fn bytes_event(alloc: Global, peer: u32, bytes: &[u8]) -> Result<HubEvent, Fail> {
+pub(crate) fn bytes_event(alloc: Global, peer: u32, bytes: &[u8]) -> Result<HubEvent, Fail> {
     Ok(HubEvent::Bytes(peer, Octets::from_slice(alloc, bytes)?))
 }
 
@@ -84,7 +84,15 @@ fn ran(
         return Err(Fail::from("no hub tells these events"));
     }
     let mut hub = SureHub::new(alloc, events);
-    let status = run(alloc, words.as_slice(), &mut input, &mut out, &mut hub);
+    let mut rounds = SureRounds::new(1);
+    let status = run(
+        alloc,
+        words.as_slice(),
+        &mut input,
+        &mut out,
+        &mut hub,
+        &mut rounds,
+    );
     Ok((status, Vec::from_slice(alloc, out.bytes())?, hub))
 }
 
@@ -255,7 +263,15 @@ fn ran_over_failing(alloc: Global, call: u64) -> Result<(u8, usize, usize), Fail
         return Err(Fail::from("no hub tells these events"));
     }
     let mut hub = MemHub::new(alloc, events, failing(alloc, call)?);
-    let status = run(alloc, words.as_slice(), &mut input, &mut out, &mut hub);
+    let mut rounds = SureRounds::new(1);
+    let status = run(
+        alloc,
+        words.as_slice(),
+        &mut input,
+        &mut out,
+        &mut hub,
+        &mut rounds,
+    );
     Ok((status, hub.acts().len(), out.bytes().len()))
 }
 

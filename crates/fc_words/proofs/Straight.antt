@@ -11,7 +11,7 @@ use Rattle.clap.specs.Words.{first_value, rows_of}
 use Rattle.clap.specs.declared.parser.matches.Found.{Found}
 use Rattle.clap.proofs.WalkLemmas.{first_value-rows}
 use Rattle.fc_words.specs.Commands.{is_dashed, are_plain}
-use Rattle.fc_words.specs.Positionals.{element_app}
+use Rattle.fc_words.specs.Positionals.{five_app}
 
 -- no option waits for a value
 abbrev pub waits_for_none : Waiting → Bool
@@ -91,25 +91,25 @@ walk_is s (word ∷ rest) w t h =
     rw (turn_is s w word t plain, step_is s.rules w word t plain)
     (ap (λ b. step_passes s w.position w.held value && b) (walk_is s rest _ (stays s.rules (arg_by_index s.rules w.position) word w t) more))
 
-abbrev element_shape : Shape
-element_shape = (built element_app).top
+abbrev five_shape : Shape
+five_shape = (built five_app).top
 
-abbrev element_walk : List Text → Walk
-element_walk = straight element_shape.rules (walk_from nothing_held)
+abbrev five_walk : List Text → Walk
+five_walk = straight five_shape.rules (walk_from nothing_held)
 
 pub start_is : IsStraight (walk_from nothing_held)
 start_is = record { waits = refl; going = refl }
 
-pub element_matches : (words : List Text) → are_plain words ≡ true → matches_of element_app words ≡ finished element_shape.rules (element_walk words).held
-element_matches words h = ap (λ (w : Walk). finished element_shape.rules w.held) (straight_walk element_shape.rules words (walk_from nothing_held) start_is h)
+pub five_matches : (words : List Text) → are_plain words ≡ true → matches_of five_app words ≡ finished five_shape.rules (five_walk words).held
+five_matches words h = ap (λ (w : Walk). finished five_shape.rules w.held) (straight_walk five_shape.rules words (walk_from nothing_held) start_is h)
 
-pub element_taken : (fe ce address connections turns : Text) → are_plain (fe ∷ ce ∷ address ∷ connections ∷ turns ∷ []) ≡ true
-    → takes element_app (fe ∷ ce ∷ address ∷ connections ∷ turns ∷ []) ≡ true
+pub five_taken : (a b c d e : Text) → are_plain (a ∷ b ∷ c ∷ d ∷ e ∷ []) ≡ true
+    → takes five_app (a ∷ b ∷ c ∷ d ∷ e ∷ []) ≡ true
 unfolding clap_on_literals
-element_taken fe ce address connections turns h =
-    let words : List Text = fe ∷ ce ∷ address ∷ connections ∷ turns ∷ [] in
-    let walked_so = straight_walk element_shape.rules words (walk_from nothing_held) start_is h in
-    let passes_so = walk_is element_shape words (walk_from nothing_held) start_is h in
+five_taken a b c d e h =
+    let words : List Text = a ∷ b ∷ c ∷ d ∷ e ∷ [] in
+    let walked_so = straight_walk five_shape.rules words (walk_from nothing_held) start_is h in
+    let passes_so = walk_is five_shape words (walk_from nothing_held) start_is h in
     rw (passes_so, walked_so)
 
 -- the words by the names of the positionals
@@ -120,17 +120,17 @@ pub record Named (f : Found) (words : List Text) : Type 0 where
   pub d : Text
   pub e : Text
   pub all : words ≡ a ∷ b ∷ c ∷ d ∷ e ∷ []
-  pub fe : first_value f (codes "fe") ≡ Some a
-  pub ce : first_value f (codes "ce") ≡ Some b
-  pub address : first_value f (codes "address") ≡ Some c
-  pub connections : first_value f (codes "connections") ≡ Some d
-  pub turns : first_value f (codes "turns") ≡ Some e
+  pub first : first_value f (codes "first") ≡ Some a
+  pub second : first_value f (codes "second") ≡ Some b
+  pub third : first_value f (codes "third") ≡ Some c
+  pub fourth : first_value f (codes "fourth") ≡ Some d
+  pub fifth : first_value f (codes "fifth") ≡ Some e
 
-pub named : (f : Found) (words : List Text) → length words ≡ 5 → are_plain words ≡ true → rows_of f ≡ matches_of element_app words → Named f words
+pub named : (f : Found) (words : List Text) → length words ≡ 5 → are_plain words ≡ true → rows_of f ≡ matches_of five_app words → Named f words
 named f (a ∷ b ∷ c ∷ d ∷ e ∷ []) five plain rows =
     let words : List Text = a ∷ b ∷ c ∷ d ∷ e ∷ [] in
-    let found : (id : Text) → first_value f id ≡ first_of id (finished element_shape.rules (element_walk words).held) = λ id.
-    first_value-rows f id ∙ ap (first_of id) (rows ∙ element_matches words plain) in
+    let found : (id : Text) → first_value f id ≡ first_of id (finished five_shape.rules (five_walk words).held) = λ id.
+    first_value-rows f id ∙ ap (first_of id) (rows ∙ five_matches words plain) in
     record {
       a = a;
       b = b;
@@ -138,11 +138,11 @@ named f (a ∷ b ∷ c ∷ d ∷ e ∷ []) five plain rows =
       d = d;
       e = e;
       all = refl;
-      fe = found (codes "fe");
-      ce = found (codes "ce");
-      address = found (codes "address");
-      connections = found (codes "connections");
-      turns = found (codes "turns");
+      first = found (codes "first");
+      second = found (codes "second");
+      third = found (codes "third");
+      fourth = found (codes "fourth");
+      fifth = found (codes "fifth");
     }
 named f [] five plain rows = absurd (omega (arith, five))
 named f (a ∷ []) five plain rows = absurd (omega (arith, five))
@@ -151,8 +151,8 @@ named f (a ∷ b ∷ c ∷ []) five plain rows = absurd (omega (arith, five))
 named f (a ∷ b ∷ c ∷ d ∷ []) five plain rows = absurd (omega (arith, five))
 named f (a ∷ b ∷ c ∷ d ∷ e ∷ x ∷ xs) five plain rows = absurd (omega (arith, five))
 
-pub words_taken : (words : List Text) → length words ≡ 5 → are_plain words ≡ true → takes element_app words ≡ true
-words_taken (a ∷ b ∷ c ∷ d ∷ e ∷ []) five plain = element_taken a b c d e plain
+pub words_taken : (words : List Text) → length words ≡ 5 → are_plain words ≡ true → takes five_app words ≡ true
+words_taken (a ∷ b ∷ c ∷ d ∷ e ∷ []) five plain = five_taken a b c d e plain
 words_taken [] five plain = absurd (omega (arith, five))
 words_taken (a ∷ []) five plain = absurd (omega (arith, five))
 words_taken (a ∷ b ∷ []) five plain = absurd (omega (arith, five))
@@ -163,11 +163,11 @@ words_taken (a ∷ b ∷ c ∷ d ∷ e ∷ x ∷ xs) five plain = absurd (omega 
 pub there : {A : Type 0} (o : Option A) (x : A) → o ≡ Some x → IsSome o
 there o x e = rw e
 
-pub read_back : (f : Found) (words : List Text) → Named f words → (a b c d e : Text) → Some a ≡ first_value f (codes "fe") → Some b ≡ first_value f (codes "ce")
-    → Some c ≡ first_value f (codes "address") → Some d ≡ first_value f (codes "connections") → Some e ≡ first_value f (codes "turns") → words ≡ a ∷ b ∷ c ∷ d ∷ e ∷ []
+pub read_back : (f : Found) (words : List Text) → Named f words → (a b c d e : Text) → Some a ≡ first_value f (codes "first") → Some b ≡ first_value f (codes "second")
+    → Some c ≡ first_value f (codes "third") → Some d ≡ first_value f (codes "fourth") → Some e ≡ first_value f (codes "fifth") → words ≡ a ∷ b ∷ c ∷ d ∷ e ∷ []
 read_back f words n a b c d e fa fb fc fd fe =
-    rw (n.all, same_Some _ _ (fa ∙ n.fe), same_Some _ _ (fb ∙ n.ce), same_Some _ _ (fc ∙ n.address), same_Some _ _ (fd ∙ n.connections), same_Some _ _ (fe ∙ n.turns))
+    rw (n.all, same_Some _ _ (fa ∙ n.first), same_Some _ _ (fb ∙ n.second), same_Some _ _ (fc ∙ n.third), same_Some _ _ (fd ∙ n.fourth), same_Some _ _ (fe ∙ n.fifth))
 
 -- the same of strings
-pub names : (f : Found) (words : List (String Global)) → length words ≡ 5 → are_plain (map string_bytes words) ≡ true → rows_of f ≡ matches_of element_app (map string_bytes words) → Named f (map string_bytes words)
+pub names : (f : Found) (words : List (String Global)) → length words ≡ 5 → are_plain (map string_bytes words) ≡ true → rows_of f ≡ matches_of five_app (map string_bytes words) → Named f (map string_bytes words)
 names f words five plain rows = named f (map string_bytes words) (rw length-map five) plain rows

@@ -6,7 +6,7 @@ use Rattle.fc_base.specs.Hex.{hex}
 use Rattle.fc_base.specs.Ids.{IsFe, IsCe}
 use Rattle.fc_words.specs.Numbers.{decimal_up_to, ce_of}
 use Rattle.fc_words.specs.declared.commands.Command.{Command}
-use Rattle.fc_words.specs.declared.commands.Command.TheVariants.{Show, Make, Element}
+use Rattle.fc_words.specs.declared.commands.Command.TheVariants.{Control, Element, Make, Show}
 use Rattle.fc_words.specs.declared.commands.WordFault.{WordFault}
 use Rattle.fc_words.specs.declared.commands.WordFault.TheVariants.{NoCommand, Memory}
 
@@ -60,12 +60,36 @@ abbrev pub element : List (List ℕ) → Option Command
 element (fe ∷ ce ∷ address ∷ connections ∷ turns ∷ []) = element_of fe ce address connections turns
 element _ = None
 
+-- whether a word is not empty
+abbrev pub is_text : List ℕ → Bool
+is_text [] = false
+is_text (b ∷ bs) = true
+
+abbrev pub are_texts : List (List ℕ) → Bool
+are_texts = list_all is_text
+
+-- The values of `control`: CE is a control element's ID in hexadecimal, ROUNDSFILE and the addresses any texts but the empty one,
+-- CONNECTIONS and TURNS counts from 1 in decimal.
+abbrev pub control_of : List ℕ → List ℕ → List ℕ → List ℕ → List (List ℕ) → Option Command
+control_of ce rounds connections turns addresses =
+    ce_of ce >>= λ c.
+    nonempty rounds >>= λ r.
+    decimal_up_to 4294967295 connections >>= λ n.
+    decimal_up_to 4294967295 turns >>= λ t.
+    if are_texts addresses then Some (Control c r n t addresses) else None
+
+-- `control` has four words after it, and then an address at least
+abbrev pub control : List (List ℕ) → Option Command
+control (ce ∷ rounds ∷ connections ∷ turns ∷ address ∷ more) = control_of ce rounds connections turns (address ∷ more)
+control _ = None
+
 -- the command of a name, with the words after it
 abbrev pub named : List ℕ → List (List ℕ) → Option Command
 named name words =
     if bytes_eq name (codes "show") then alone Show words
     else if bytes_eq name (codes "make") then alone Make words
     else if bytes_eq name (codes "element") then element words
+    else if bytes_eq name (codes "control") then control words
     else None
 
 abbrev pub named_first : List (List ℕ) → Option Command
@@ -88,3 +112,18 @@ pub record IsElement (words : List (List ℕ)) (fe ce : ℕ) (address : List ℕ
   pub address_plain : is_dashed address ≡ false
   pub connections_range : (0 < connections) × (connections < 2 ^ 32)
   pub turns_range : (0 < turns) × (turns < 2 ^ 32)
+
+-- Words that mean `control` with these values: the numbers are written as they stand, the ID of the control element in digits of
+-- either case.
+pub record IsControl (words : List (List ℕ)) (ce : ℕ) (rounds : List ℕ) (connections turns : ℕ) (addresses : List (List ℕ)) : Type 0 where
+  pub ce_word : List ℕ
+  pub all : words ≡ codes "control" ∷ ce_word ∷ rounds ∷ decimal connections ∷ decimal turns ∷ addresses
+  pub ce_digits : str_to_ascii_uppercase ce_word ≡ hex 8 ce
+  pub ce_range : IsCe ce
+  pub rounds_some : rounds ≢ []
+  pub rounds_plain : is_dashed rounds ≡ false
+  pub connections_range : (0 < connections) × (connections < 2 ^ 32)
+  pub turns_range : (0 < turns) × (turns < 2 ^ 32)
+  pub addresses_some : addresses ≢ []
+  pub addresses_texts : are_texts addresses ≡ true
+  pub addresses_plain : are_plain addresses ≡ true

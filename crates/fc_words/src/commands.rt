@@ -1,7 +1,7 @@
 // The commands, and why words are none.
 ghost use Rattle.std.specs.Prelude.{◌≡◌};
 
-use fc_base::{CeId, FeId, Memory, Text};
+use fc_base::{CeId, FeId, List, Memory, Text};
 use std::alloc::AllocError;
 
 /// What the words of a command line ask for.
@@ -23,6 +23,19 @@ pub enum Command {
         connections: u32,
         /// How many events are taken, from 1.
         turns: u32,
+    },
+    /// Runs a control element.
+    Control {
+        /// Its ID.
+        ce: CeId,
+        /// The file that keeps the number of its last round, which is not empty.
+        rounds_file: Text,
+        /// How many connections are taken, from 1.
+        connections: u32,
+        /// How many events are taken, from 1.
+        turns: u32,
+        /// Where the elements of its plan are reached, in the plan's order. There is one at least, and none is empty.
+        addresses: List<Text>,
     },
 }
 

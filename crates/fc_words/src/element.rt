@@ -4,7 +4,7 @@ ghost use Rattle.fc_words.specs.Commands.{Gives};
 ghost use Rattle.fc_words.specs.Commands as spec;
 
 use crate::commands::{Command, WordFault};
-use crate::positionals::{ElementWords, element_words};
+use crate::positionals::{FiveWords, five_words};
 use crate::values::{ce_id, count, fe_id};
 use fc_base::Text;
 use std::alloc::Global;
@@ -17,21 +17,21 @@ pub(crate) fn element(alloc: Global, words: &[String]) -> Result<Command, WordFa
     if words.len() != 5 {
         return Err(WordFault::NoCommand);
     }
-    let given = element_words(alloc, words)?;
+    let given = five_words(alloc, words)?;
     values(alloc, &given)
 }
 
-fn values(alloc: Global, given: &ElementWords<'_>) -> Result<Command, WordFault>
-    ensures { Gives result (spec.element_of given.now.fe.now given.now.ce.now given.now.address.now given.now.connections.now given.now.turns.now) }
+fn values(alloc: Global, given: &FiveWords<'_>) -> Result<Command, WordFault>
+    ensures { Gives result (spec.element_of given.now.first.now given.now.second.now given.now.third.now given.now.fourth.now given.now.fifth.now) }
 {
-    let fe = fe_id(given.fe).ok_or(WordFault::NoCommand)?;
-    let ce = ce_id(given.ce).ok_or(WordFault::NoCommand)?;
-    if given.address.is_empty() {
+    let fe = fe_id(given.first).ok_or(WordFault::NoCommand)?;
+    let ce = ce_id(given.second).ok_or(WordFault::NoCommand)?;
+    if given.third.is_empty() {
         return Err(WordFault::NoCommand);
     }
-    let connections = count(given.connections).ok_or(WordFault::NoCommand)?;
-    let turns = count(given.turns).ok_or(WordFault::NoCommand)?;
-    let address = Text::from_str(alloc, given.address)?;
+    let connections = count(given.fourth).ok_or(WordFault::NoCommand)?;
+    let turns = count(given.fifth).ok_or(WordFault::NoCommand)?;
+    let address = Text::from_str(alloc, given.third)?;
     Ok(Command::Element {
         fe,
         ce,

@@ -3,9 +3,9 @@ ghost use Rattle.std.specs.Prelude.{◌≡◌, ◌<◌, ◌≤◌, ◌^◌, ◌�
 ghost use Rattle.std.specs.Str.{str_to_ascii_uppercase};
 ghost use Rattle.fc_base.specs.Hex.{hex};
 ghost use Rattle.fc_base.specs.Ids.{IsCe};
-ghost use Rattle.fc_words.specs.Commands.{IsElement, command_of};
+ghost use Rattle.fc_words.specs.Commands.{IsControl, IsElement, command_of};
 ghost use Rattle.fc_words.specs.Numbers.{decimal_up_to, ce_of};
-ghost use Rattle.fc_words.specs.declared.commands.Command.TheVariants.{Show, Make, Element};
+ghost use Rattle.fc_words.specs.declared.commands.Command.TheVariants.{Control, Show, Make, Element};
 
 /// A word spells a number in decimal exactly where it is what is written for that number, and the number is in its range.
 pub fn decimal_words()
@@ -32,4 +32,9 @@ pub fn words_of_make()
 /// Words mean `element` with some values exactly where they are its name and what is written for these values.
 pub fn words_of_element()
     ensures { (words : List (List ℕ)) (fe ce : ℕ) (address : List ℕ) (connections turns : ℕ) → command_of words ≡ Some (Element fe ce address connections turns) ↔ IsElement words fe ce address connections turns }
+{}
+
+/// Words mean `control` with some values exactly where they are its name and what is written for these values.
+pub fn words_of_control()
+    ensures { (words : List (List ℕ)) (ce : ℕ) (rounds : List ℕ) (connections turns : ℕ) (addresses : List (List ℕ)) → command_of words ≡ Some (Control ce rounds connections turns addresses) ↔ IsControl words ce rounds connections turns addresses }
 {}

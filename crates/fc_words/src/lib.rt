@@ -2,6 +2,7 @@
 #![tactic(auto)]
 
 mod commands;
+mod control;
 mod element;
 mod laws;
 mod positionals;
@@ -9,5 +10,8 @@ mod reading;
 mod values;
 
 pub use commands::{Command, WordFault};
-pub use laws::{controller_words, decimal_words, words_of_element, words_of_make, words_of_show};
+pub use laws::{
+    controller_words, decimal_words, words_of_control, words_of_element, words_of_make,
+    words_of_show,
+};
 pub use reading::command;

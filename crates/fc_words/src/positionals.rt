@@ -2,40 +2,37 @@
 ghost use Rattle.std.specs.Prelude.{◌≡◌, ◌∷◌, [], length, map, string_bytes, IfOk, IfErr, IsSome, Some};
 ghost use Rattle.clap.specs.Words.{app_of, with_rule, rows_of, found_of, matches_of, kind_of, first_value};
 ghost use Rattle.fc_words.specs.Commands as spec;
-ghost use Rattle.fc_words.specs.Positionals.{element_app, nameless_app, positional};
+ghost use Rattle.fc_words.specs.Positionals.{five_app, nameless_app, positional};
 
 use crate::commands::WordFault;
 use clap::error::ErrorKind;
 use clap::{Arg, ArgMatches, Command, Error};
 use std::alloc::{AllocError, Global};
 
-/// The words of `element` by name.
+/// Five words by their places.
 #[derive(Clone, Copy)]
-pub(crate) struct ElementWords<'a> {
-    pub(crate) fe: &'a str,
-    pub(crate) ce: &'a str,
-    pub(crate) address: &'a str,
-    pub(crate) connections: &'a str,
-    pub(crate) turns: &'a str,
+pub(crate) struct FiveWords<'a> {
+    pub(crate) first: &'a str,
+    pub(crate) second: &'a str,
+    pub(crate) third: &'a str,
+    pub(crate) fourth: &'a str,
+    pub(crate) fifth: &'a str,
 }
 
-/// The words after the name of `element`, by the names of its positionals.
-pub(crate) fn element_words<'a>(
-    alloc: Global,
-    words: &'a [String],
-) -> Result<ElementWords<'a>, WordFault>
+/// Five words after the name of a command, as its positionals.
+pub(crate) fn five_words<'a>(alloc: Global, words: &'a [String]) -> Result<FiveWords<'a>, WordFault>
     requires five { length words.now ≡ 5 }
     requires plain { spec.ArePlain (map string_bytes words.now) }
-    ensures given { IfOk result (λ p. map string_bytes words.entry.now ≡ p.fe.now ∷ p.ce.now ∷ p.address.now ∷ p.connections.now ∷ p.turns.now ∷ []) }
+    ensures given { IfOk result (λ p. map string_bytes words.entry.now ≡ p.first.now ∷ p.second.now ∷ p.third.now ∷ p.fourth.now ∷ p.fifth.now ∷ []) }
     ensures memory { IfErr result (λ fault. fault ≡ WordFault.Memory) }
 {
     match matched(alloc, words) {
-        Ok(matches) => Ok(ElementWords {
-            fe: value(&matches, "fe"),
-            ce: value(&matches, "ce"),
-            address: value(&matches, "address"),
-            connections: value(&matches, "connections"),
-            turns: value(&matches, "turns"),
+        Ok(matches) => Ok(FiveWords {
+            first: value(&matches, "first"),
+            second: value(&matches, "second"),
+            third: value(&matches, "third"),
+            fourth: value(&matches, "fourth"),
+            fifth: value(&matches, "fifth"),
         }),
         Err(_) => Err(WordFault::Memory),
     }
@@ -45,22 +42,22 @@ pub(crate) fn element_words<'a>(
 fn matched<'a>(alloc: Global, words: &'a [String]) -> Result<ArgMatches<'a>, Error>
     requires five { length words.now ≡ 5 }
     requires plain { spec.ArePlain (map string_bytes words.now) }
-    ensures rows { IfOk result (λ m. rows_of (found_of m) ≡ matches_of element_app (map string_bytes words.entry.now)) }
+    ensures rows { IfOk result (λ m. rows_of (found_of m) ≡ matches_of five_app (map string_bytes words.entry.now)) }
     ensures memory { IfErr result (λ e. kind_of e ≡ ErrorKind.OutOfMemory) }
 {
-    let command = element_command(alloc)?;
+    let command = five_command(alloc)?;
     command.try_get_matches_from(words)
 }
 
-fn element_command<'a>(alloc: Global) -> Result<Command<'a>, AllocError>
-    ensures { IfOk result (λ command. app_of command ≡ element_app) }
+fn five_command<'a>(alloc: Global) -> Result<Command<'a>, AllocError>
+    ensures { IfOk result (λ command. app_of command ≡ five_app) }
 {
-    let command = nameless(alloc, "element");
-    let command = with_positional(alloc, command, "fe")?;
-    let command = with_positional(alloc, command, "ce")?;
-    let command = with_positional(alloc, command, "address")?;
-    let command = with_positional(alloc, command, "connections")?;
-    with_positional(alloc, command, "turns")
+    let command = nameless(alloc, "words");
+    let command = with_positional(alloc, command, "first")?;
+    let command = with_positional(alloc, command, "second")?;
+    let command = with_positional(alloc, command, "third")?;
+    let command = with_positional(alloc, command, "fourth")?;
+    with_positional(alloc, command, "fifth")
 }
 
 // A command of which all words are positionals.

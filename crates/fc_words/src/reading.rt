@@ -5,11 +5,12 @@ ghost use Rattle.fc_words.specs.Commands.{Gives};
 ghost use Rattle.fc_words.specs.Commands as spec;
 
 use crate::commands::{Command, WordFault};
+use crate::control::control;
 use crate::element::element;
 use std::alloc::Global;
 
-/// The command that the words of a command line mean: `show`, `make`, or `element FE CE ADDRESS CONNECTIONS TURNS`. A word
-/// that begins with `-` makes the words no command.
+/// The command that the words of a command line mean: `show`, `make`, `element FE CE ADDRESS CONNECTIONS TURNS`, or `control CE
+/// ROUNDSFILE CONNECTIONS TURNS ADDRESS..` with an address at least. A word that begins with `-` makes the words no command.
 pub fn command(alloc: Global, words: &[String]) -> Result<Command, WordFault>
     ensures exact { Gives result (spec.command_of (map string_bytes words.now)) }
 {
@@ -54,6 +55,8 @@ fn named(alloc: Global, name: &str, words: &[String]) -> Result<Command, WordFau
         alone(Command::Make, words)
     } else if name == "element" {
         element(alloc, words)
+    } else if name == "control" {
+        control(alloc, words)
     } else {
         Err(WordFault::NoCommand)
     }

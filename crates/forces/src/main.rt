@@ -1,8 +1,8 @@
 //! `forces`: forwarding and control elements of one router, over standard input and output and TCP.
 #![tactic(auto)]
 
-use fc_base::{Memory, StdSink, StdSource};
-use fc_hub::{Patient, TcpHub};
+use fc_base::{Memory, StdSink, StdSource, Text};
+use fc_hub::{FileRounds, Patient, TcpHub};
 use fc_tool::run;
 use fc_words::{Command, WordFault, command};
 use std::alloc::Global;
@@ -28,24 +28,47 @@ fn words(alloc: Global, rt: &(impl Env + AllocGlobal)) -> Result<Vec<String>, Me
     Ok(words)
 }
 
+// The command that the words mean, if they mean one.
+fn meant(alloc: Global, words: &[String]) -> Result<Option<Command>, Memory> {
+    match command(alloc, words) {
+        Ok(meant) => Ok(Some(meant)),
+        Err(WordFault::NoCommand) => Ok(None),
+        Err(WordFault::Memory) => Err(Memory),
+    }
+}
+
 // The hub that the words ask for. Where they ask for none, it is never called.
 fn hub<'a>(
     alloc: Global,
     rt: &'a HostRuntime,
     words: &[String],
 ) -> Result<TcpHub<&'a HostRuntime>, Memory> {
-    let meant = match command(alloc, words) {
-        Ok(meant) => meant,
-        Err(WordFault::NoCommand) => return TcpHub::listen(alloc, rt, "", 1),
-        Err(WordFault::Memory) => return Err(Memory),
+    let Some(meant) = meant(alloc, words)? else {
+        return TcpHub::listen(alloc, rt, "", 1);
     };
-    match &meant {
+    match meant {
         Command::Show | Command::Make => TcpHub::listen(alloc, rt, "", 1),
         Command::Element {
             address,
             connections,
             ..
-        } => TcpHub::listen(alloc, rt, address.as_str(), *connections),
+        } => TcpHub::listen(alloc, rt, address.as_str(), connections),
+        Command::Control {
+            addresses,
+            connections,
+            ..
+        } => TcpHub::dial(alloc, rt, addresses, connections),
+    }
+}
+
+// The file of the rounds that the words ask for. Where they ask for none, it is never read.
+fn rounds_file(alloc: Global, words: &[String]) -> Result<Text, Memory> {
+    let Some(meant) = meant(alloc, words)? else {
+        return Text::from_str(alloc, "");
+    };
+    match meant {
+        Command::Show | Command::Make | Command::Element { .. } => Text::from_str(alloc, ""),
+        Command::Control { rounds_file, .. } => Ok(rounds_file),
     }
 }
 
@@ -57,7 +80,21 @@ fn main(rt: HostRuntime) -> ExitCode {
     let Ok(mut hub) = hub(alloc, &rt, words.as_slice()) else {
         return ExitCode::from(NO_MEMORY);
     };
+    let Ok(file) = rounds_file(alloc, words.as_slice()) else {
+        return ExitCode::from(NO_MEMORY);
+    };
+    let Ok(mut rounds) = FileRounds::at(alloc, &rt, file.as_str()) else {
+        return ExitCode::from(NO_MEMORY);
+    };
     let mut input = StdSource::new(Patient::new(&rt, rt.reader()));
     let mut out = StdSink::new(Patient::new(&rt, io::writer(&rt)));
-    ExitCode::from(run(alloc, words.as_slice(), &mut input, &mut out, &mut hub))
+    let status = run(
+        alloc,
+        words.as_slice(),
+        &mut input,
+        &mut out,
+        &mut hub,
+        &mut rounds,
+    );
+    ExitCode::from(status)
 }

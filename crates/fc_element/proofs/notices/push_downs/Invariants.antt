@@ -1,6 +1,6 @@
 use Rattle.std.proofs.Common.{◌≡◌, ◌++◌, take}
 use Rattle.std.specs.List.{AllByRecursion, flat_map}
-use Rattle.fc_element.specs.ElementMachine.{IsSaid}
+use Rattle.fc_performing.specs.Sending.{IsSaid}
 use Rattle.fc_element.specs.Notices.{down_to}
 use Rattle.fc_element.proofs.notices.push_downs.Given as goal
 

@@ -1,5 +1,5 @@
 use Rattle.std.proofs.Common.{ap, ◌∙◌, Some}
-use Rattle.fc_element.specs.Sending.{out}
+use Rattle.fc_performing.specs.Sending.{out}
 use Rattle.fc_element.proofs.Beats.{at_place}
 use Rattle.fc_element.proofs.replies.beat_at.Goals as goal
 

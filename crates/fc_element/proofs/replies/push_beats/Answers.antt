@@ -1,7 +1,9 @@
-use Rattle.std.proofs.Common.{arith, ◌∙◌}
+use Rattle.std.proofs.Common.{[], ◌∷◌, arith, subst, sym, ◌∙◌}
 use Rattle.std.specs.FinMap.{len-entries}
 use Rattle.fc_element.proofs.Beats.{all_sent, beats_length, one_more}
-use Rattle.fc_element.proofs.Said.{one_more_said}
+use Rattle.std.specs.List.{AllByRecursion}
+use Rattle.fc_performing.specs.Sending.{IsSaid}
+use Rattle.fc_element.proofs.Telling.{all_append}
 use Rattle.fc_element.proofs.replies.push_beats.Goals as goal
 
 pub loop-place-preserved : goal.loop-place-preserved
@@ -9,7 +11,7 @@ loop-place-preserved c = record {
   sent = c.push_reserved.ensures.items ∙ one_more _ _ _ _ _ c.in-Some.ensures.exact c.loop-place.invariant.sent;
   room = omega (arith, c.push_reserved.ensures.len, c.loop-place.invariant.room);
   capacity = c.push_reserved.ensures.capacity ∙ c.loop-place.invariant.capacity;
-  proper = λ all. one_more_said c.loop-place.outs.items c.push_reserved.new.self.items c.in-Some.out (c.loop-place.invariant.proper all) c.in-Some.ensures.proper c.push_reserved.ensures.items;
+  proper = λ all. subst (AllByRecursion IsSaid) (sym c.push_reserved.ensures.items) (all_append IsSaid c.loop-place.outs.items (c.in-Some.out ∷ []) (c.loop-place.invariant.proper all) (c.in-Some.ensures.proper, tt));
 }
 
 pub returns-clause-sent : goal.returns-clause-sent

@@ -1,6 +1,7 @@
 use Rattle.std.proofs.Common.{◌≡◌, ◌+◌, ◌++◌, take, vec_len, vec_capacity}
 use Rattle.std.specs.List.{AllByRecursion}
-use Rattle.fc_element.specs.ElementMachine.{IsSaid, beats_of}
+use Rattle.fc_element.specs.ElementMachine.{beats_of}
+use Rattle.fc_performing.specs.Sending.{IsSaid}
 use Rattle.fc_element.proofs.replies.push_beats.Given as goal
 
 abbrev pub invariant-loop-place : goal.invariant-loop-place

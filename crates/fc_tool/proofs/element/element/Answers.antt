@@ -1,8 +1,8 @@
 use Rattle.std.proofs.Common.{subst}
 use Rattle.fc_tool.specs.declared.element.ElementEnd.{ElementEnd}
 use Rattle.fc_tool.specs.ElementRun.{is_unread, is_unserved}
-use Rattle.fc_tool.specs.Stops.{FlushedAt, SinkCount}
-use Rattle.fc_tool.proofs.Endings.{finished_count}
+use Rattle.fc_endings.specs.Stops.{FlushedAt, SinkCount}
+use Rattle.fc_endings.proofs.Endings.{finished_count}
 use Rattle.fc_tool.proofs.Ending.{element_finished}
 use Rattle.fc_tool.proofs.element.element.Goals as goal
 

@@ -1,7 +1,7 @@
 use Rattle.std.proofs.Common.{ap, inl, inr, refl}
 use Rattle.std.proofs.KnownBytes.{Appends-nil}
 use Rattle.fc_element.specs.Reports.{report_of}
-use Rattle.fc_tool.proofs.Ending.{report_stops, run_lacks}
+use Rattle.fc_tool.proofs.Ending.{report_stops, run_breaks, run_lacks}
 use Rattle.fc_tool.proofs.element.run_element.Goals as goal
 
 pub returns-in_default-clause-ends : goal.returns-in_default-clause-ends
@@ -19,3 +19,6 @@ returns-in-Ok-Turns-clause-ends g c =
 
 pub returns-clause-ends : goal.returns-clause-ends
 returns-clause-ends g c = run_lacks c.in-Err-NoMemory.field-0 _ _ _ _ _ _ c.in-Err-NoMemory.ensures.ends c.in-Err-NoMemory.field-0-is c.in-Ok.ensures
+
+pub returns-in-Err-HubFault-clause-ends : goal.returns-in-Err-HubFault-clause-ends
+returns-in-Err-HubFault-clause-ends g c = run_breaks c.in-Err-HubFault.field-0 _ _ _ _ _ _ c.in-Err-HubFault.ensures.ends c.in-Err-HubFault.field-0-is c.in-Ok.ensures

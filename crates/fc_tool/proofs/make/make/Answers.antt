@@ -1,8 +1,8 @@
 use Rattle.std.proofs.Common.{subst}
 use Rattle.fc_tool.specs.declared.make.Made.{Made}
 use Rattle.fc_tool.specs.Make.{is_unread}
-use Rattle.fc_tool.specs.Stops.{FlushedAt, SinkCount}
-use Rattle.fc_tool.proofs.Endings.{finished_count}
+use Rattle.fc_endings.specs.Stops.{FlushedAt, SinkCount}
+use Rattle.fc_endings.proofs.Endings.{finished_count}
 use Rattle.fc_tool.proofs.Making.{make_finished}
 use Rattle.fc_tool.proofs.make.make.Goals as goal
 

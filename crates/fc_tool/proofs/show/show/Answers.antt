@@ -1,8 +1,8 @@
 use Rattle.std.proofs.Common.{subst}
 use Rattle.fc_tool.specs.declared.show.Shown.{Shown}
 use Rattle.fc_tool.specs.Show.{is_unread}
-use Rattle.fc_tool.specs.Stops.{FlushedAt, SinkCount}
-use Rattle.fc_tool.proofs.Endings.{finished_count}
+use Rattle.fc_endings.specs.Stops.{FlushedAt, SinkCount}
+use Rattle.fc_endings.proofs.Endings.{finished_count}
 use Rattle.fc_tool.proofs.Shows.{show_finished}
 use Rattle.fc_tool.proofs.show.show.Goals as goal
 

@@ -1,6 +1,6 @@
 use Rattle.std.proofs.Common.{◌≡◌, ◌++◌, [], arith, length, ◌∙◌, append-nil, length-append}
 use Rattle.std.proofs.KnownBytes.{Consumes-trans}
-use Rattle.fc_tool.specs.declared.stops.Stop.TheVariants.{NoMemory}
+use Rattle.fc_endings.specs.declared.stops.Stop.TheVariants.{NoMemory}
 use Rattle.fc_tool.proofs.Reaching.{reaches_on, reaches_fed}
 use Rattle.fc_tool.proofs.Shows.{memory_ends, no_item, rest_ends, refused_ends, stopped_ends, too_long_ends, reaches_length, text_on}
 use Rattle.fc_tool.proofs.show.show_all.Goals as goal

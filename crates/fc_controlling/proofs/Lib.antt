@@ -1,0 +1,5 @@
+pub mod Cutting
+pub mod Deciding
+pub mod Ending
+pub mod Prefixes
+pub mod Statuses

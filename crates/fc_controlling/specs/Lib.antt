@@ -1,0 +1,5 @@
+pub mod ControlRun
+pub mod Meanings
+pub mod Outcomes
+pub mod Runs
+pub mod RunsAlike

@@ -1,0 +1,4 @@
+pub mod Endings
+pub mod Limits
+pub mod Looks
+pub mod Stops
