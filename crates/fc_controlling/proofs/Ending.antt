@@ -80,6 +80,7 @@ fault_meant (fault.Missing key) meant told given = given
 fault_meant (fault.WrongKind key) meant told given = given
 fault_meant (fault.Check f) meant told given = given
 fault_meant (fault.Rule r) meant told given = given
+fault_meant (fault.StepText place) meant told given = given
 fault_meant fault.Memory meant told given = absurd (told refl)
 
 -- why it means none was written, or a front of that

@@ -15,7 +15,7 @@ use Rattle.fc_library.specs.Documents.{document}
 use Rattle.fc_library.specs.declared.fault.DocumentRule.{DocumentRule}
 use Rattle.fc_library.specs.declared.fault.DocumentRule.TheVariants as broken
 use Rattle.fc_library.specs.declared.fault.LibFault.{LibFault}
-use Rattle.fc_library.specs.declared.fault.LibFault.TheVariants.{NotToml, Unknown, Missing, WrongKind, Check, Rule, Memory}
+use Rattle.fc_library.specs.declared.fault.LibFault.TheVariants.{NotToml, Unknown, Missing, WrongKind, Check, Rule, StepText, Memory}
 use Rattle.fc_library.proofs.KeyFaults.{is_of_key, of_keys, bind_keys, given_keys, only_keys, number_keys, text_keys, truth_keys, tables_keys, tables_or_keys, each_keys}
 use Rattle.fc_documents.specs.Tables.{table_in, element_at, moment_in, moment, moment_or_none, element, change, transaction, plan_table}
 use Rattle.fc_documents.specs.Rules.{kept, participants, bodies_at, keeps_limits, keeps_elements, keeps_names}
@@ -305,6 +305,9 @@ other_read (Err g) f key unlike h e = let same : g ≡ f = cc in false≢true (s
 other_told : (o : Option Members) (f : LibFault) → is_of_key f ≡ false → ((rule : DocumentRule) → f ≢ Rule rule) → f ≢ NotToml → (table_in o >>= plan) ≢ Err f
 other_told None f key unlike toml e = let same : NotToml ≡ f = cc in toml (sym same)
 other_told (Some ms) f key unlike toml e = other_read (plan_table ms) f key unlike (plan_keys ms) e
+
+pub by_no_step : (bytes : List ℕ) (place : ℕ) → plan_of bytes ≢ Err (StepText place)
+by_no_step bytes place = other_told (document bytes) (StepText place) refl (λ rule e. cc) (λ e. cc)
 
 pub by_no_other : (bytes : List ℕ) (fault : CheckFault) → (plan_of bytes ≢ Err (Check fault)) × (plan_of bytes ≢ Err Memory)
 by_no_other bytes fault = (other_told (document bytes) (Check fault) refl (λ rule e. cc) (λ e. cc), other_told (document bytes) Memory refl (λ rule e. cc) (λ e. cc))

@@ -6,7 +6,7 @@ ghost use Rattle.fc_types.specs.declared.fault.CheckFault.{CheckFault};
 ghost use Rattle.fc_library.specs.Documents.{document};
 ghost use Rattle.fc_library.specs.declared.fault.DocumentRule.{DocumentRule};
 ghost use Rattle.fc_library.specs.declared.fault.LibFault.{LibFault};
-ghost use Rattle.fc_library.specs.declared.fault.LibFault.TheVariants.{NotToml, Check, Rule, Memory};
+ghost use Rattle.fc_library.specs.declared.fault.LibFault.TheVariants.{NotToml, Check, Rule, StepText, Memory};
 ghost use Rattle.fc_documents.specs.Tables.{plan_table};
 ghost use Rattle.fc_documents.specs.Rules.{has_few, is_of, is_listed, participants};
 ghost use Rattle.fc_documents.specs.Parts.{can_begin, each_of, element_of, HasOwn, transaction_of};
@@ -21,12 +21,14 @@ ghost use Rattle.fc_documents.specs.declared.transaction.PlanTxn.{PlanTxn};
 /// Each cause stands alone: a document is not TOML exactly where its bytes are none; a key refuses it exactly where its tables have
 /// that fault of a key; a rule refuses it exactly where its tables can be read and that rule is the first that they break; and it
 /// means a plan exactly where its tables can be read and break no rule: the plan's elements are those of its tables, and its
-/// transactions what the tables of transactions write. The check of a library never refuses it, and want of memory is no meaning.
+/// transactions what the tables of transactions write. The check of a library never refuses it, no step
+/// does, and want of memory is no meaning.
 pub fn plans_are_judged_once()
     ensures not_toml { (bytes : List ℕ) → plan_of bytes ≡ Err NotToml ↔ document bytes ≡ None }
     ensures key { (bytes key : List ℕ) (fault : LibFault) → IsOfKey key fault → (plan_of bytes ≡ Err fault) ↔ ((ms : Members) × (document bytes ≡ Some ms) × (plan_table ms ≡ Err fault)) }
     ensures rule { (bytes : List ℕ) (rule : DocumentRule) → (plan_of bytes ≡ Err (Rule rule)) ↔ ((ms : Members) × (table : PlanTable) × (document bytes ≡ Some ms) × (plan_table ms ≡ Ok table) × (first_broken (plan_rules table) ≡ Some rule)) }
     ensures accepted { (bytes : List ℕ) (plan : Planned) → (plan_of bytes ≡ Ok plan) ↔ ((ms : Members) × (table : PlanTable) × (document bytes ≡ Some ms) × (plan_table ms ≡ Ok table) × (first_broken (plan_rules table) ≡ None) × (plan.elements ≡ table.elements) × (each_of transaction_of table.transactions ≡ Ok plan.transactions)) }
+    ensures step { (bytes : List ℕ) (place : ℕ) → plan_of bytes ≢ Err (StepText place) }
     ensures other { (bytes : List ℕ) (fault : CheckFault) → (plan_of bytes ≢ Err (Check fault)) × (plan_of bytes ≢ Err Memory) }
 {}
 

@@ -10,7 +10,7 @@ use Rattle.std.specs.String.{string_cmp}
 use Rattle.toml.proofs.Views.{Entry}
 use Rattle.toml.specs.View.{members_view}
 use Rattle.fc_library.specs.declared.fault.LibFault.{LibFault}
-use Rattle.fc_library.specs.declared.fault.LibFault.TheVariants.{NotToml, Unknown, Missing, WrongKind, Check, Rule, Memory}
+use Rattle.fc_library.specs.declared.fault.LibFault.TheVariants.{NotToml, Unknown, Missing, WrongKind, Check, Rule, StepText, Memory}
 use Rattle.fc_base.specs.Answers.{◌>>=◌}
 use Rattle.fc_library.specs.Gives.{GivesBy, Gives, told}
 use Rattle.fc_library.specs.Keys.{is_among, unknown_keys, least_from, only}
@@ -23,6 +23,7 @@ gives_fault h (Missing k) g meant same e = rw (same (λ x. cc)) e
 gives_fault h (WrongKind k) g meant same e = rw (same (λ x. cc)) e
 gives_fault h (Check k) g meant same e = rw (same (λ x. cc)) e
 gives_fault h (Rule k) g meant same e = rw (same (λ x. cc)) e
+gives_fault h (StepText k) g meant same e = rw (same (λ x. cc)) e
 gives_fault h Memory g meant same e = tt
 
 -- the fault of a reader is that of the chain that it begins

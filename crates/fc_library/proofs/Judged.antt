@@ -9,7 +9,7 @@ use Rattle.fc_types.specs.declared.fault.CheckFault.{CheckFault}
 use Rattle.fc_types.specs.declared.fault.CheckFault.TheVariants as checks
 use Rattle.fc_library.specs.declared.fault.DocumentRule.{DocumentRule}
 use Rattle.fc_library.specs.declared.fault.LibFault.{LibFault}
-use Rattle.fc_library.specs.declared.fault.LibFault.TheVariants.{NotToml, Check, Rule, Memory}
+use Rattle.fc_library.specs.declared.fault.LibFault.TheVariants.{NotToml, Check, Rule, StepText, Memory}
 use Rattle.fc_base.specs.Answers.{◌>>=◌}
 use Rattle.fc_library.specs.Declarations.{declaration}
 use Rattle.fc_library.specs.Documents.{document, checked_by, checked, library_in, library_of}
@@ -56,6 +56,10 @@ no_rule : (given : Given) (found : Option CheckFault) (rule : DocumentRule) → 
 no_rule given None rule e = cc
 no_rule given (Some fault) rule e = cc
 
+no_step : (given : Given) (found : Option CheckFault) (place : ℕ) → checked_by given found ≢ Err (StepText place)
+no_step given None place e = cc
+no_step given (Some fault) place e = cc
+
 -- the same, of what the tables declare
 read_toml : (r : Result Given LibFault) → of_keys r ≡ true → (r >>= checked) ≢ Err NotToml
 read_toml (Ok given) h e = no_toml given (first_fault given.0 given.1) e
@@ -76,6 +80,10 @@ read_memory (Err fault) h e = cc
 read_rule : (r : Result Given LibFault) (rule : DocumentRule) → of_keys r ≡ true → (r >>= checked) ≢ Err (Rule rule)
 read_rule (Ok given) rule h e = no_rule given (first_fault given.0 given.1) rule e
 read_rule (Err fault) rule h e = cc
+
+read_step : (r : Result Given LibFault) (place : ℕ) → of_keys r ≡ true → (r >>= checked) ≢ Err (StepText place)
+read_step (Ok given) place h e = no_step given (first_fault given.0 given.1) place e
+read_step (Err fault) place h e = cc
 
 read_want : (r : Result Given LibFault) → of_keys r ≡ true → (r >>= checked) ≢ Err (Check checks.Memory)
 read_want r h e = let (given, is, fault) = read_refused r checks.Memory h e in no_want given.0 given.1 fault
@@ -120,6 +128,13 @@ rule_in (Some ms) rule e = read_rule (declaration ms) rule (declaration_keys ms)
 
 pub no_rule_broken : (bytes : List ℕ) (rule : DocumentRule) → library_of bytes ≢ Err (Rule rule)
 no_rule_broken bytes rule = rule_in (document bytes) rule
+
+step_in : (o : Option Members) (place : ℕ) → library_in o ≢ Err (StepText place)
+step_in None place e = cc
+step_in (Some ms) place e = read_step (declaration ms) place (declaration_keys ms) e
+
+pub no_step_told : (bytes : List ℕ) (place : ℕ) → library_of bytes ≢ Err (StepText place)
+no_step_told bytes place = step_in (document bytes) place
 
 want_in : (o : Option Members) → library_in o ≢ Err (Check checks.Memory)
 want_in None e = cc

@@ -5,7 +5,7 @@ use Rattle.toml.specs.View.{view, items_view, table_view}
 use Rattle.toml.specs.declared.value.Value.{Value, Table}
 use Rattle.toml.proofs.Views.{view-Table, items_view-drop}
 use Rattle.fc_library.specs.declared.fault.LibFault.{LibFault}
-use Rattle.fc_library.specs.declared.fault.LibFault.TheVariants.{NotToml, Unknown, Missing, WrongKind, Check, Rule, Memory}
+use Rattle.fc_library.specs.declared.fault.LibFault.TheVariants.{NotToml, Unknown, Missing, WrongKind, Check, Rule, StepText, Memory}
 use Rattle.fc_base.specs.Answers.{◌>>=◌}
 use Rattle.fc_library.specs.Gives.{Gives}
 use Rattle.fc_library.specs.Types.{each}
@@ -35,6 +35,7 @@ module _ {A : Type 0} (read : Members → Result A LibFault) where
   fails (WrongKind k) one rest sofar meant h e = rw (← e, h)
   fails (Check k) one rest sofar meant h e = rw (← e, h)
   fails (Rule k) one rest sofar meant h e = rw (← e, h)
+  fails (StepText k) one rest sofar meant h e = rw (← e, h)
   fails Memory one rest sofar meant h e = tt
 
   pub each_fails : (vs : List Value) (i : ℕ) (v : Value) (m : BTreeMap (String Global) Value) (f : LibFault) (sofar : List A) (meant : Result (List A) LibFault)

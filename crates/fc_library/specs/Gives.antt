@@ -3,7 +3,7 @@
 use Rattle.std.specs.Prelude.{Option, Some, None, Result}
 use Rattle.fc_base.specs.Answers as answers
 use Rattle.fc_library.specs.declared.fault.LibFault.{LibFault}
-use Rattle.fc_library.specs.declared.fault.LibFault.TheVariants.{NotToml, Unknown, Missing, WrongKind, Check, Rule, Memory}
+use Rattle.fc_library.specs.declared.fault.LibFault.TheVariants.{NotToml, Unknown, Missing, WrongKind, Check, Rule, StepText, Memory}
 
 -- the fault of the meaning that an error tells
 abbrev pub told : LibFault → Option LibFault
@@ -13,6 +13,7 @@ told (Missing key) = Some (Missing key)
 told (WrongKind key) = Some (WrongKind key)
 told (Check fault) = Some (Check fault)
 told (Rule rule) = Some (Rule rule)
+told (StepText place) = Some (StepText place)
 told Memory = None
 
 abbrev pub GivesBy : {A B : Type 0} → (A → B) → Result A LibFault → Result B LibFault → Type 0

@@ -14,6 +14,8 @@ pub enum DocumentRule {
     TooMany,
     /// An element is listed twice, or a change is of one that is not listed.
     Element,
+    /// Two control elements have one number, or an element's is not listed.
+    Controller,
     /// The name of a transaction is empty, that of another one too, or has another character than letters, digits and `_`.
     Name,
     /// A body is no change, or a transaction has none.
@@ -43,6 +45,9 @@ pub enum LibFault {
     /// What the tables say does not keep this rule.
     #[error("a rule of the document is not kept: {0:?}")]
     Rule(DocumentRule),
+    /// The text at this place, counted from 1, is no step of a script.
+    #[error("the text at place {0} is no step")]
+    StepText(usize),
     /// There was no memory.
     #[error("there is no memory")]
     Memory,

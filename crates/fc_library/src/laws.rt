@@ -15,7 +15,7 @@ ghost use Rattle.fc_library.specs.Keys.{is_among, only, unknown_keys};
 ghost use Rattle.fc_library.specs.Names.{greatest, is_signed, least, width};
 ghost use Rattle.fc_library.specs.Types.{type_in, type_of};
 ghost use Rattle.fc_library.specs.declared.fault.DocumentRule.{DocumentRule};
-ghost use Rattle.fc_library.specs.declared.fault.LibFault.TheVariants.{NotToml, Unknown, Check, Rule, Memory};
+ghost use Rattle.fc_library.specs.declared.fault.LibFault.TheVariants.{NotToml, Unknown, Check, Rule, StepText, Memory};
 ghost use Rattle.fc_library.specs.declared.names.NumberName.{NumberName};
 ghost use Rattle.fc_library.specs.declared.names.TypeName.{TypeName};
 
@@ -38,11 +38,13 @@ pub fn numbers_span_their_type()
 
 /// The causes that are not of keys stand alone: a document is not TOML exactly where its bytes are none; the check refuses it
 /// exactly where its tables declare classes and instances of which that is the first fault; and it means a library exactly
-/// where its tables declare classes and instances that have none. No other rule refuses it, and want of memory is no meaning.
+/// where its tables declare classes and instances that have none. No other rule refuses it and no
+/// step, and want of memory is no meaning.
 pub fn documents_are_judged_once()
     ensures not_toml { (bytes : List ℕ) → library_of bytes ≡ Err NotToml ↔ document bytes ≡ None }
     ensures refused { (bytes : List ℕ) (fault : CheckFault) → (library_of bytes ≡ Err (Check fault)) ↔ ((ms : Members) × (given : List Class × List (ℕ × ℕ)) × (document bytes ≡ Some ms) × (declaration ms ≡ Ok given) × (first_fault given.0 given.1 ≡ Some fault)) }
     ensures accepted { (bytes : List ℕ) (given : List Class × List (ℕ × ℕ)) → (library_of bytes ≡ Ok given) ↔ ((ms : Members) × (document bytes ≡ Some ms) × (declaration ms ≡ Ok given) × (first_fault given.0 given.1 ≡ None)) }
     ensures rule { (bytes : List ℕ) (rule : DocumentRule) → library_of bytes ≢ Err (Rule rule) }
+    ensures step { (bytes : List ℕ) (place : ℕ) → library_of bytes ≢ Err (StepText place) }
     ensures memory { (bytes : List ℕ) → (library_of bytes ≢ Err Memory) × (library_of bytes ≢ Err (Check checks.Memory)) }
 {}

@@ -1,5 +1,5 @@
 // The line that tells why a document is refused.
-ghost use Rattle.std.specs.Prelude.{◌≡◌, ◌≢◌, IfOk};
+ghost use Rattle.std.specs.Prelude.{◌≡◌, ◌≢◌, IfOk, codes, decimal};
 ghost use Rattle.fc_library.specs.Refusals as spec;
 ghost use Rattle.fc_library.specs.declared.fault.LibFault.TheVariants as faults;
 
@@ -21,6 +21,7 @@ pub fn refusal(alloc: Global, kind: &str, fault: &LibFault) -> Result<Vec<u8>, M
         LibFault::WrongKind(key) => line(alloc, kind, "wrongkind ", key.as_str()),
         LibFault::Check(fault) => line(alloc, kind, "check ", check_word(*fault)),
         LibFault::Rule(rule) => line(alloc, kind, "rule ", rule_word(*rule)),
+        LibFault::StepText(place) => place_line(alloc, kind, *place),
         LibFault::Memory => Err(Memory),
     }
 }
@@ -38,6 +39,14 @@ fn line(alloc: Global, kind: &str, rule: &str, name: &str) -> Result<Vec<u8>, Me
     Ok(line)
 }
 
+// The line of a place among the steps.
+fn place_line(alloc: Global, kind: &str, place: usize) -> Result<Vec<u8>, Memory>
+    ensures { IfOk result (λ line. line.items ≡ spec.line kind.now (codes "step ") (decimal place)) }
+{
+    let digits = format!(in alloc; "{place}")?;
+    line(alloc, kind, "step ", digits.as_str())
+}
+
 // The name of a rule.
 fn rule_word(rule: DocumentRule) -> &'static str
     ensures { result.now ≡ spec.rule_word rule }
@@ -45,6 +54,7 @@ fn rule_word(rule: DocumentRule) -> &'static str
     match rule {
         DocumentRule::TooMany => "toomany",
         DocumentRule::Element => "element",
+        DocumentRule::Controller => "controller",
         DocumentRule::Name => "name",
         DocumentRule::Body => "body",
         DocumentRule::Addresses => "addresses",

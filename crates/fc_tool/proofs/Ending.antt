@@ -124,6 +124,7 @@ fault_meant (fault.Missing key) bytes told given = given
 fault_meant (fault.WrongKind key) bytes told given = given
 fault_meant (fault.Check f) bytes told given = given
 fault_meant (fault.Rule r) bytes told given = given
+fault_meant (fault.StepText place) bytes told given = given
 fault_meant fault.Memory bytes told given = absurd (told refl)
 
 -- why it means none was written
