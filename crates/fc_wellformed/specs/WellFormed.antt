@@ -1,6 +1,6 @@
 -- Messages that can be encoded, and that a receiver reads as what they are (RFC 5810, sections 6.1 and 7): the flags fit their bits, the selects are
 -- ones of the grammar, and each length fits its field. Of what the life of a control element was asked to change this holds from the start.
-use Rattle.std.specs.Prelude.{◌≡◌, ◌+◌, ◌++◌, ◌∷◌, [], ℕ, true, List, map, Some, None}
+use Rattle.std.specs.Prelude.{◌≡◌, ◌++◌, ◌∷◌, [], ℕ, true, List, map, Some, None}
 use Rattle.std.specs.List.{AllByRecursion}
 use Rattle.fc_wire.specs.Flags.{FlagsFit}
 use Rattle.fc_path.specs.declared.oper.Select.{Select}
