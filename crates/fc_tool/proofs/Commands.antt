@@ -2,22 +2,18 @@
 use Rattle.std.proofs.Common.{◌≡◌, ◌∙◌, sym, ap, refl, ℕ, List, [], ◌⊎◌, Option, None, Some, Result, Ok, Err, inl, inr, take, arith}
 use Rattle.std.proofs.KnownBytes.{Appends-nil}
 use Rattle.fc_base.specs.Causes.{Rose}
-use Rattle.fc_hub.specs.Hubs.{Held}
 use Rattle.fc_words.specs.declared.commands.Command.{Command}
 use Rattle.fc_words.specs.declared.commands.Command.TheVariants.{Control, Element, Make, Show}
-use Rattle.fc_tool.specs.declared.element.ElementEnd.{ElementEnd}
 use Rattle.fc_tool.specs.declared.make.Made.{Made}
 use Rattle.fc_tool.specs.declared.show.Shown.{Shown}
 use Rattle.fc_endings.specs.declared.stops.Stop.{Stop}
-use Rattle.fc_tool.specs.declared.element.ElementEnd.TheVariants as end
 use Rattle.fc_tool.specs.declared.make.Made.TheVariants as made
 use Rattle.fc_tool.specs.declared.show.Shown.TheVariants as shown
 use Rattle.fc_endings.specs.declared.stops.Stop.TheVariants.{NoMemory, WriteFault}
-use Rattle.fc_tool.specs.ElementRun.{ElementEnds, element_status, is_unread as element_unread, is_unserved}
 use Rattle.fc_endings.specs.Endings.{EndCount}
 use Rattle.fc_tool.specs.Make.{MakeEnds, is_unread as make_unread, make_status}
 use Rattle.fc_tool.specs.Run.{UsageEnds, usage_status}
-use Rattle.fc_tool.specs.Runs.{ElementRuns, MakeRuns, ShowRuns}
+use Rattle.fc_tool.specs.Runs.{MakeRuns, ShowRuns}
 use Rattle.fc_tool.specs.Show.{ShowEnds, is_unread as show_unread, status_of}
 use Rattle.fc_endings.specs.Stops.{SinkCount}
 use Rattle.fc_endings.proofs.Endings.{none_written}
@@ -114,24 +110,6 @@ pub make_runs : (how : Result Made Stop) (limit status : ℕ) (before left old n
 make_runs how limit status before left old new f f' k k' is ends source sink =
     record { ends = (how, is, ends); complete = λ read wrote. rw is (make_decides how f f' k k' source sink read wrote) }
 
-element_decides : (how : Result ElementEnd Stop) (f f' k k' h h' : ℕ) → EndCount element_unread how f f' → SinkCount how k k' → EndCount is_unserved how h h'
-    → (Rose f f' → ⊥) → (Rose k k' → ⊥) → (Rose h h' → ⊥)
-    → (element_status how ≡ 0) ⊎ ((element_status how ≡ 10) ⊎ ((element_status how ≡ 5) ⊎ ((element_status how ≡ 12) ⊎ (element_status how ≡ 9))))
-element_decides (Ok end.Done) f f' k k' h h' source sink hub read wrote served = inl refl
-element_decides (Ok end.Turns) f f' k k' h h' source sink hub read wrote served = inr (inl refl)
-element_decides (Ok end.HubFault) f f' k k' h h' source sink hub read wrote served = absurd (served hub)
-element_decides (Ok end.ReadFault) f f' k k' h h' source sink hub read wrote served = absurd (read source)
-element_decides (Ok end.Refused) f f' k k' h h' source sink hub read wrote served = inr (inr (inl refl))
-element_decides (Ok end.TooLong) f f' k k' h h' source sink hub read wrote served = inr (inr (inr (inl refl)))
-element_decides (Err WriteFault) f f' k k' h h' source sink hub read wrote served = absurd (wrote sink)
-element_decides (Err NoMemory) f f' k k' h h' source sink hub read wrote served = inr (inr (inr (inr refl)))
-
-pub element_runs : (how : Result ElementEnd Stop) (limit id ce turns status : ℕ) (before left : Option (List ℕ)) (first last : Option Held) (old new : Option (List ℕ)) (f f' k k' h h' : ℕ)
-    → status ≡ element_status how → ElementEnds limit id ce turns how before left first last old new
-    → EndCount element_unread how f f' → SinkCount how k k' → EndCount is_unserved how h h' → ElementRuns limit id ce turns status before left first last old new (Rose f f') (Rose k k') (Rose h h')
-element_runs how limit id ce turns status before left first last old new f f' k k' h h' is ends source sink hub =
-    record { ends = (how, is, ends); complete = λ read wrote served. rw is (element_decides how f f' k k' h h' source sink hub read wrote served) }
-
 -- no memory, and nothing was done
 pub usage_none : (known : Option (List ℕ)) → (how : Result (Unit {0}) Stop) × (9 ≡ usage_status how) × UsageEnds how known known
 usage_none known = (Err NoMemory, refl, none_written known _)
@@ -145,9 +123,3 @@ show_none limit left known f k =
 pub make_none : (limit : ℕ) (left known : Option (List ℕ)) (f k : ℕ) → MakeRuns limit 9 left left known known (Rose f f) (Rose k k)
 make_none limit left known f k =
     make_runs (Err NoMemory) limit 9 left left known known f f k k refl (inr (([], consumes_none left, omega arith), Appends-nil known)) (inl refl) refl
-
-pub element_none : (limit id ce turns : ℕ) (left : Option (List ℕ)) (held : Option Held) (known : Option (List ℕ)) (f k h : ℕ)
-    → ElementRuns limit id ce turns 9 left left held held known known (Rose f f) (Rose k k) (Rose h h)
-element_none limit id ce turns left held known f k h =
-    element_runs (Err NoMemory) limit id ce turns 9 left left held held known known f f k k h h refl (inr (inl ([], consumes_none left, omega arith, refl), Appends-nil known))
-    (inl refl) refl (inl refl)

@@ -1,13 +1,5 @@
-pub mod Acting
-pub mod ElementNode
-pub mod ElementRun
 pub mod Make
-pub mod Nexts
-pub mod OpenPeers
-pub mod Pieces
 pub mod Run
 pub mod Runs
-pub mod RunsAlike
 pub mod Show
-pub mod Streams
 pub mod Text

@@ -7,15 +7,15 @@ ghost use Rattle.fc_words.specs.declared.commands.Command.TheVariants as meant;
 ghost use Rattle.fc_endings.specs.declared.stops.Stop.{Stop};
 ghost use Rattle.fc_controlling.specs.ControlRun.{control_status};
 ghost use Rattle.fc_controlling.specs.Runs.{ControlRuns};
-ghost use Rattle.fc_tool.specs.ElementRun.{element_status};
+ghost use Rattle.fc_serving.specs.ElementRun.{element_status};
+ghost use Rattle.fc_serving.specs.Runs.{ElementRuns};
 ghost use Rattle.fc_endings.specs.Limits.{most_bytes};
 ghost use Rattle.fc_tool.specs.Make.{make_status};
 ghost use Rattle.fc_tool.specs.Run.{UsageEnds, asked_for, usage_status};
-ghost use Rattle.fc_tool.specs.Runs.{ElementRuns, MakeRuns, ShowRuns};
+ghost use Rattle.fc_tool.specs.Runs.{MakeRuns, ShowRuns};
 ghost use Rattle.fc_tool.specs.Show.{status_of};
 ghost use Rattle.fc_endings.specs.Stops.{FlushedAt, SinkCount};
 
-use crate::element::{ElementEnd, element};
 use crate::make::{Made, make};
 use crate::show::{Shown, show};
 use crate::status::{
@@ -26,6 +26,7 @@ use fc_base::{CeId, List, Sink, Source, Text};
 use fc_controlling::{Asked, ControlEnd, control};
 use fc_endings::{Stop, finish, put};
 use fc_hub::{Hub, Rounds};
+use fc_serving::{ElementEnd, element};
 use fc_words::{Command, WordFault, command};
 use std::alloc::Global;
 

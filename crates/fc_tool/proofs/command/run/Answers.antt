@@ -1,6 +1,7 @@
 use Rattle.std.proofs.Common.{◌∙◌, ap, Some}
 use Rattle.fc_controlling.proofs.Statuses.{control_none, control_runs}
-use Rattle.fc_tool.proofs.Commands.{element_none, element_or_control, element_or_make, element_runs, make_none, make_or_control, make_runs, not_both, one_control, one_element, show_none, show_or_control, show_or_make, show_runs, usage_none}
+use Rattle.fc_serving.proofs.Statuses.{element_none, element_runs}
+use Rattle.fc_tool.proofs.Commands.{element_or_control, element_or_make, make_none, make_or_control, make_runs, not_both, one_control, one_element, show_none, show_or_control, show_or_make, show_runs, usage_none}
 use Rattle.fc_tool.proofs.command.run.Goals as goal
 
 pub returns-in-Err-Memory-clause-usage : goal.returns-in-Err-Memory-clause-usage

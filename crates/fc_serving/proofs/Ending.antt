@@ -1,0 +1,145 @@
+-- How `element` ends, from how its parts ended.
+use Rattle.std.proofs.Common.{◌≡◌, ◌≢◌, ◌<◌, ℕ, List, length, refl, sym, ap, subst, ◌∙◌, inl, inr, [], codes, Option, Result, Ok, Err, IfOk}
+use Rattle.std.specs.Io.KnownBytes.{Appends, Keeps}
+use Rattle.std.proofs.KnownBytes.{Appends-nil}
+use Rattle.fc_base.specs.Content.{AppendsFront}
+use Rattle.fc_element.specs.Reports.{report_of}
+use Rattle.fc_hub.specs.Hubs.{Held}
+use Rattle.fc_hub.specs.declared.event.HubEvent.{HubEvent}
+use Rattle.fc_peers.specs.declared.acting.NodeStop.{NodeStop}
+use Rattle.fc_peers.specs.declared.acting.NodeStop.TheVariants as node_stop
+use Rattle.fc_serving.specs.declared.end.ElementEnd.{ElementEnd}
+use Rattle.fc_serving.specs.declared.end.ElementEnd.TheVariants.{Done, HubFault, ReadFault, Refused, TooLong, Turns}
+use Rattle.fc_endings.specs.declared.input.Look.{Look}
+use Rattle.fc_endings.specs.declared.input.Look.TheVariants as look
+use Rattle.fc_serving.specs.declared.serve.Served.{Served}
+use Rattle.fc_serving.specs.declared.serve.Served.TheVariants as served
+use Rattle.fc_endings.specs.declared.stops.Stop.{Stop}
+use Rattle.fc_endings.specs.declared.stops.Stop.TheVariants.{NoMemory}
+use Rattle.fc_serving.specs.Serving.{Broke, ServeEnds}
+use Rattle.fc_serving.specs.ElementNode.{NodeState, node, first_node, node_after, node_by, node_given}
+use Rattle.fc_types.specs.declared.class.Class.{Class}
+use Rattle.fc_library.specs.Documents.{GivesLibrary, library_of}
+use Rattle.fc_element.proofs.Openings.{opened_same}
+use Rattle.std.specs.FinMap.{empty}
+use Rattle.fc_library.specs.Gives.{Gives}
+use Rattle.fc_library.specs.Refusals.{refusal_text}
+use Rattle.fc_library.specs.declared.fault.LibFault.{LibFault}
+use Rattle.fc_library.specs.declared.fault.LibFault.TheVariants as fault
+use Rattle.fc_endings.specs.Looks.{LookEnds}
+use Rattle.fc_serving.specs.ElementRun.{ActedSo, DocumentEnds, DocumentLacked, DocumentWent, ElementEnds, ElementLacked, ElementWent, HubLacked, IsRun, JudgedSo, MeansLibrary, RunEnds, RunWent, element_text, look_of, refused_text}
+use Rattle.fc_endings.proofs.Endings.{cut_short, finished_ends, widened}
+
+document_lacks : (limit id ce turns : ℕ) (bytes : List ℕ) (before left : Option (List ℕ)) (old new : Option Held) → LookEnds limit (Ok look.Whole) bytes before left
+    → DocumentLacked id ce turns bytes old new → ElementLacked limit id ce turns before left old new
+document_lacks limit id ce turns bytes before left old new read (inl kept) = inl (bytes, read.0, read.2, kept)
+document_lacks limit id ce turns bytes before left old new read (inr (means, lacked)) = inr (bytes, read, means, lacked)
+
+-- the document was read whole
+pub document_ends : (how : Result ElementEnd Stop) (limit id ce turns : ℕ) (bytes : List ℕ) (before left : Option (List ℕ)) (old new : Option Held) (text now : Option (List ℕ))
+    → LookEnds limit (Ok look.Whole) bytes before left → DocumentEnds id ce turns bytes how old new text now → ElementEnds limit id ce turns how before left old new text now
+document_ends how limit id ce turns bytes before left old new text now read ends =
+    widened ElementEnd (DocumentWent id ce turns bytes old new) (ElementWent limit id ce turns before left old new) (DocumentLacked id ce turns bytes old new) (ElementLacked limit id ce turns before left old new) how text now
+    (λ end written went. (bytes, went.0, rw went.1 read, went.2, went.3, went.4))
+    (λ lacked. document_lacks limit id ce turns bytes before left old new read lacked) ends
+
+-- what was written stands after the flush, and where the flush stopped
+pub element_finished : (end : ElementEnd) (how : Result ElementEnd Stop) (limit id ce turns : ℕ) (before left : Option (List ℕ)) (old new : Option Held) (text mid now : Option (List ℕ))
+    → ElementEnds limit id ce turns (Ok end) before left old new text mid → IfOk how (λ last. last ≡ end) → Keeps mid now → ElementEnds limit id ce turns how before left old new text now
+element_finished end how limit id ce turns before left old new text mid now ends is kept =
+    finished_ends ElementEnd (ElementWent limit id ce turns before left old new) (ElementLacked limit id ce turns before left old new) end how text mid now ends is kept
+
+-- ---- over the hub, where the document means a library
+
+run_is_whole : (end : ElementEnd) → IsRun end → look_of end ≡ look.Whole
+run_is_whole Done run = refl
+run_is_whole Turns run = refl
+run_is_whole HubFault run = refl
+run_is_whole Refused run = absurd run
+run_is_whole ReadFault run = absurd run
+run_is_whole TooLong run = absurd run
+
+run_is_judged : (end : ElementEnd) (bytes : List ℕ) → IsRun end → MeansLibrary bytes → JudgedSo end bytes
+run_is_judged Done bytes run means = means
+run_is_judged Turns bytes run means = means
+run_is_judged HubFault bytes run means = means
+run_is_judged Refused bytes run means = absurd run
+run_is_judged ReadFault bytes run means = absurd run
+run_is_judged TooLong bytes run means = absurd run
+
+run_text : (n : NodeState) (end : ElementEnd) (bytes : List ℕ) (events : List HubEvent) → IsRun end → element_text n end [] events ≡ element_text n end bytes events
+run_text n Done bytes events run = refl
+run_text n Turns bytes events run = refl
+run_text n HubFault bytes events run = refl
+run_text n Refused bytes events run = absurd run
+run_text n ReadFault bytes events run = absurd run
+run_text n TooLong bytes events run = absurd run
+
+node_ends : (how : Result ElementEnd Stop) (id ce turns : ℕ) (bytes : List ℕ) (old new : Option Held) (text now : Option (List ℕ))
+    → MeansLibrary bytes → RunEnds (node_by id ce bytes) turns how old new text now → DocumentEnds id ce turns bytes how old new text now
+node_ends how id ce turns bytes old new text now means ends =
+    let n = node_by id ce bytes in
+    widened ElementEnd (RunWent n turns old new) (DocumentWent id ce turns bytes old new) (HubLacked n turns old new) (DocumentLacked id ce turns bytes old new) how text now
+    (λ end written went. (went.0, run_is_whole end went.1, run_is_judged end bytes went.1 means, went.2, went.3 ∙ run_text n end bytes went.0 went.1))
+    (λ lacked. inr (means, lacked)) ends
+
+pub library_ends : (how : Result ElementEnd Stop) (id ce turns : ℕ) (bytes : List ℕ) (library : List Class) (instances : List (ℕ × ℕ)) (old new : Option Held) (text now : Option (List ℕ))
+    → GivesLibrary (Ok (library, instances)) (library_of bytes) → RunEnds (first_node id ce library instances) turns how old new text now → DocumentEnds id ce turns bytes how old new text now
+library_ends how id ce turns bytes library instances old new text now (pairs, is, moved, order) ends =
+    let same : node_by id ce bytes ≡ first_node id ce library instances = ap (node_given id ce) is ∙ ap (λ e. node e empty) (opened_same id ce library pairs instances moved) in
+    node_ends how id ce turns bytes old new text now ((library, pairs), is) (subst (λ (n : NodeState). RunEnds n turns how old new text now) (sym same) ends)
+
+-- the report was not written whole
+pub run_stops : (stop : Stop) (end : ElementEnd) (n : NodeState) (turns : ℕ) (events : List HubEvent) (old new : Option Held) (text now : Option (List ℕ)) (written : List ℕ)
+    → IsRun end → ActedSo n turns end events old new → written ≡ element_text n end [] events → AppendsFront text now written
+    → RunEnds n turns (Err stop) old new text now
+run_stops stop end n turns events old new text now written run acted is front =
+    cut_short ElementEnd (RunWent n turns old new) (HubLacked n turns old new) stop end text now written (events, run, acted, is) front
+
+-- the report on the element that was served was not written whole
+pub report_stops : (stop : Stop) (how : Served) (n : NodeState) (turns : ℕ) (first last : NodeState) (old new : Option Held) (text now : Option (List ℕ)) (written : List ℕ)
+    → ServeEnds (Ok how) turns first last old new → first ≡ n → written ≡ report_of last.element → AppendsFront text now written
+    → RunEnds n turns (Err stop) old new text now
+report_stops stop served.Over n turns first last old new text now written (events, few, went, all, after) begun is front =
+    run_stops stop Done n turns events old new text now written tt (few, rw begun at went, all)
+    (is ∙ ap (λ (m : NodeState). report_of m.element) (after ∙ ap (λ (m : NodeState). node_after m events) begun)) front
+report_stops stop served.Turns n turns first last old new text now written (events, count, went, after) begun is front =
+    run_stops stop Turns n turns events old new text now written tt (count, rw begun at went)
+    (is ∙ ap (λ (m : NodeState). report_of m.element) (after ∙ ap (λ (m : NodeState). node_after m events) begun)) front
+
+-- memory lacked while the element was served
+pub run_breaks : (stop : NodeStop) (n : NodeState) (turns : ℕ) (first : NodeState) (old new : Option Held) (known : Option (List ℕ))
+    → (events : List HubEvent) × (length events < turns) × Broke stop old new first events → stop ≡ node_stop.HubFault → first ≡ n → RunEnds n turns (Ok HubFault) old new known known
+run_breaks stop n turns first old new known (events, few, broke) broken begun = ([], (events, tt, (few, rw (broken, begun) at broke), refl), Appends-nil known)
+
+pub run_lacks : (stop : NodeStop) (n : NodeState) (turns : ℕ) (first : NodeState) (old new : Option Held) (known : Option (List ℕ))
+    → (events : List HubEvent) × (length events < turns) × Broke stop old new first events → stop ≡ node_stop.NoMemory → first ≡ n → RunEnds n turns (Err NoMemory) old new known known
+run_lacks stop n turns first old new known (events, few, broke) lacked begun = inr (inr (events, few, rw (lacked, begun) at broke), Appends-nil known)
+
+-- the document means none, for a fault that is told
+pub fault_meant : (f : LibFault) (bytes : List ℕ) → f ≢ fault.Memory → Gives (Err f) (library_of bytes) → library_of bytes ≡ Err f
+fault_meant fault.NotToml bytes told given = given
+fault_meant (fault.Unknown key) bytes told given = given
+fault_meant (fault.Missing key) bytes told given = given
+fault_meant (fault.WrongKind key) bytes told given = given
+fault_meant (fault.Check f) bytes told given = given
+fault_meant (fault.Rule r) bytes told given = given
+fault_meant (fault.StepText place) bytes told given = given
+fault_meant fault.Memory bytes told given = absurd (told refl)
+
+-- why it means none was written
+pub refused_whole : (f : LibFault) (id ce turns : ℕ) (bytes : List ℕ) (held : Option Held) (text now : Option (List ℕ))
+    → library_of bytes ≡ Err f → Appends text now (refusal_text (codes "library") f) → DocumentEnds id ce turns bytes (Ok Refused) held held text now
+refused_whole f id ce turns bytes held text now is wrote = (refusal_text (codes "library") f, ([], refl, (f, is), refl, ap refused_text (sym is)), wrote)
+
+-- why it means none was not written whole
+pub refused_stops : (stop : Stop) (f : LibFault) (id ce turns : ℕ) (bytes : List ℕ) (held : Option Held) (text now : Option (List ℕ))
+    → library_of bytes ≡ Err f → AppendsFront text now (refusal_text (codes "library") f) → DocumentEnds id ce turns bytes (Err stop) held held text now
+refused_stops stop f id ce turns bytes held text now is front =
+    cut_short ElementEnd (DocumentWent id ce turns bytes held held) (DocumentLacked id ce turns bytes held held) stop Refused text now (refusal_text (codes "library") f)
+    ([], refl, (f, is), refl, ap refused_text (sym is)) front
+
+-- the input can't be read
+pub unread_ends : (how : Look) (limit id ce turns : ℕ) (bytes : List ℕ) (before left : Option (List ℕ)) (held : Option Held) (known : Option (List ℕ))
+    → LookEnds limit (Ok how) bytes before left → how ≡ look.ReadFault → ElementEnds limit id ce turns (Ok ReadFault) before left held held known known
+unread_ends how limit id ce turns bytes before left held known read unread = ([], (bytes, [], rw unread at read, tt, refl, refl), Appends-nil known)

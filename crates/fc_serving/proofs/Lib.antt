@@ -1,0 +1,10 @@
+pub mod Bytes
+pub mod Ending
+pub mod Hearing
+pub mod Outcomes
+pub mod Pieces
+pub mod Runs
+pub mod RunsAlike
+pub mod Sendings
+pub mod Serving
+pub mod Statuses
