@@ -202,7 +202,7 @@ module _ (p epoch : ℕ) (l : Ledger) (m : Message) (selects : List Select) (nam
   first_alone code false e = refl
 
   -- ---- what is next
-  acts_told : (a : Asked) (number : ℕ) → Shaped selects a → (number == 0) ≡ false → shown_codes selects (acts p epoch l m selects a).codes ≢ []
+  pub acts_told : (a : Asked) (number : ℕ) → Shaped selects a → (number == 0) ≡ false → shown_codes selects (acts p epoch l m selects a).codes ≢ []
       → code_of a (body_of number a) (acts p epoch l m selects a).codes ≡ response_code (shown_codes selects (acts p epoch l m selects a).codes)
   acts_told (Claim w) number shape later n = claim_told w (number == 0) later n
   acts_told (Floor f) number shape later n =
