@@ -1,11 +1,12 @@
 // The hub that dials against listeners in the same process.
-use fc_base::{List, Octets, Text};
+use crate::hearing::{brings, ends, hears, hears_bytes, tells, two_seconds_passed};
+use fc_base::{List, Text};
 use fc_hub::{Hub, HubEvent, TcpHub};
 use std::alloc::Global;
 use std::io::{Read, Write};
-use std::net::{Net, OpenListener, SocketAddr, TcpListener};
+use std::net::{Net, OpenListener, TcpListener};
 use std::test::Fail;
-use std::time::{Clock, Duration};
+use std::time::Clock;
 
 // A hub for so many connections that dials these ports of this machine.
 fn dialling<R: Net + Clock + Drop>(
@@ -22,65 +23,90 @@ fn dialling<R: Net + Clock + Drop>(
     Ok(TcpHub::dial(alloc, rt, addresses, connections)?)
 }
 
-// The port of an address.
-fn port(address: SocketAddr) -> u16 {
-    address.port()
+// The port at which a listener listens.
+fn port<L: OpenListener>(listener: &L) -> Result<u16, Fail> {
+    Ok(listener.local_addr()?.port())
 }
 
-// The next event that is no moment.
-fn event<H: Hub>(hub: &mut H) -> Result<HubEvent, Fail> {
-    for _ in 0..100u32 {
-        match hub.next()? {
-            HubEvent::Moment(_) => {}
-            event => return Ok(event),
-        }
-    }
-    Err(Fail::from("nothing but moments"))
+// A port at which nobody listens.
+fn free_port<R: Net>(rt: &R) -> Result<u16, Fail> {
+    port(&TcpListener::bind(rt, "127.0.0.1:0")?)
+}
+
+// The first element is heard, and gets what is sent to it; what is sent to another one is lost.
+fn talks<H: Hub, S: Read + Write>(hub: &mut H, element: &mut S) -> Result<(), Fail> {
+    element.write_all(&[1, 2, 3])?;
+    hears_bytes(hub, 1, &[1, 2, 3])?;
+    hub.send(1, &[4, 5])?;
+    hub.send(3, &[6])?;
+    brings(element, [4, 5])
+}
+
+// The first element is dialled, and ends the connection.
+fn talks_until_the_element_ends<H: Hub, L: OpenListener>(
+    hub: &mut H,
+    listener: &L,
+) -> Result<(), Fail>
+where
+    L::Stream: Read + Write,
+{
+    hears(hub, HubEvent::Opened(1))?;
+    let (mut element, _) = listener.accept()?;
+    talks(hub, &mut element)?;
+    drop(element);
+    hears(hub, HubEvent::Closed(1))
+}
+
+// The third element is dialled, since the second one does not answer, and is given up as it stays silent.
+fn gives_up_the_silent<H: Hub, L: OpenListener>(
+    rt: &HostRuntime,
+    hub: &mut H,
+    listener: &L,
+) -> Result<(), Fail>
+where
+    L::Stream: Read,
+{
+    hears(hub, HubEvent::Opened(3))?;
+    let (mut element, _) = listener.accept()?;
+    let start = rt.monotonic()?;
+    hears(hub, HubEvent::Closed(3))?;
+    two_seconds_passed(rt, start)?;
+    ends(&mut element)
+}
+
+// The first element is dialled once more, and closed from this side: that was the last connection.
+fn closes_the_last<H: Hub, L: OpenListener>(hub: &mut H, listener: &L) -> Result<(), Fail>
+where
+    L::Stream: Read,
+{
+    hears(hub, HubEvent::Opened(1))?;
+    let (mut element, _) = listener.accept()?;
+    hub.close(1)?;
+    ends(&mut element)?;
+    hears(hub, HubEvent::Over)
+}
+
+// The elements of a hub are dialled in turn, of which the first and the third one listen.
+fn dials_in_turn<H: Hub, L: OpenListener>(
+    rt: &HostRuntime,
+    hub: &mut H,
+    first: &L,
+    third: &L,
+) -> Result<(), Fail>
+where
+    L::Stream: Read + Write,
+{
+    tells(hub, HubEvent::Moment(0))?;
+    talks_until_the_element_ends(hub, first)?;
+    gives_up_the_silent(rt, hub, third)?;
+    closes_the_last(hub, first)
 }
 
 #[test]
 fn elements_are_dialled_in_turn(rt: HostRuntime) -> Result<(), Fail> {
-    let alloc = rt.alloc();
     let first = TcpListener::bind(&rt, "127.0.0.1:0")?;
     let third = TcpListener::bind(&rt, "127.0.0.1:0")?;
-    let nobody = TcpListener::bind(&rt, "127.0.0.1:0")?;
-    let ports = [
-        port(first.local_addr()?),
-        port(nobody.local_addr()?),
-        port(third.local_addr()?),
-    ];
-    drop(nobody);
-    let mut hub = dialling(alloc, &rt, &ports, 5)?;
-    assert_eq!(rt; hub.next()?, HubEvent::Moment(0));
-
-    assert_eq!(rt; event(&mut hub)?, HubEvent::Opened(1));
-    let (mut one, _) = first.accept()?;
-    one.write_all(&[1, 2, 3])?;
-    assert_eq!(rt;
-        event(&mut hub)?,
-        HubEvent::Bytes(1, Octets::from_slice(alloc, &[1, 2, 3])?)
-    );
-    hub.send(1, &[4, 5])?;
-    hub.send(3, &[6])?;
-    let mut answer = [0; 2];
-    one.read_exact(&mut answer)?;
-    assert_eq!(rt; answer, [4, 5]);
-    drop(one);
-    assert_eq!(rt; event(&mut hub)?, HubEvent::Closed(1));
-
-    assert_eq!(rt; event(&mut hub)?, HubEvent::Opened(3));
-    let (mut other, _) = third.accept()?;
-    let start = rt.monotonic()?;
-    assert_eq!(rt; event(&mut hub)?, HubEvent::Closed(3));
-    let took = rt.monotonic()?.saturating_sub(start);
-    assert!(rt; took >= Duration::from_millis(1500), "{took:?}");
-    assert!(rt; took < Duration::from_secs(20), "{took:?}");
-    assert_eq!(rt; other.read(&mut answer)?, 0);
-
-    assert_eq!(rt; event(&mut hub)?, HubEvent::Opened(1));
-    let (mut again, _) = first.accept()?;
-    hub.close(1)?;
-    assert_eq!(rt; again.read(&mut answer)?, 0);
-    assert_eq!(rt; event(&mut hub)?, HubEvent::Over);
-    Ok(())
+    let ports = [port(&first)?, free_port(&rt)?, port(&third)?];
+    let mut hub = dialling(rt.alloc(), &rt, &ports, 5)?;
+    dials_in_turn(&rt, &mut hub, &first, &third)
 }

@@ -4,6 +4,8 @@
 #[cfg(test)]
 mod dialling;
 #[cfg(test)]
+mod hearing;
+#[cfg(test)]
 mod hubs;
 #[cfg(test)]
 mod links;
@@ -13,3 +15,5 @@ mod patience;
 mod rounds;
 #[cfg(test)]
 mod tcp;
+#[cfg(test)]
+mod wanted;

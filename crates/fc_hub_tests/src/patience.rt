@@ -1,4 +1,5 @@
 // Ends that do not block are waited for.
+use crate::wanted::equal;
 use fc_hub::Patient;
 use std::cell::Cell;
 use std::io;
@@ -83,21 +84,34 @@ impl Read for Slow {
     }
 }
 
-#[test]
-fn ends_that_do_not_block_are_waited_for(rt: HostRuntime) -> Result<(), Fail> {
+// Bytes come from a slow peer, and go to it, one at a time.
+fn is_waited_for() -> Result<(), Fail> {
     let clock = Ticks::new();
-    let slow = Slow { waits: false };
-    let mut patient = Patient::new(&clock, slow);
+    let mut patient = Patient::new(&clock, Slow { waits: false });
     let mut bytes = [0; 3];
     for _ in 0..3u32 {
-        assert_eq!(rt; patient.read(&mut bytes)?, 1);
-        assert_eq!(rt; patient.write(&[1, 2])?, 1);
-        assert!(rt; patient.flush().is_ok());
+        equal(&patient.read(&mut bytes)?, &1)?;
+        equal(&patient.write(&[1, 2])?, &1)?;
+        patient.flush()?;
     }
-    assert_eq!(rt; bytes, [7, 0, 0]);
-    let mut broken = Patient::new(&clock, Broken(32));
-    assert!(rt; broken.read(&mut bytes).is_err());
-    assert!(rt; broken.write(&bytes).is_err());
-    assert!(rt; broken.flush().is_err());
-    Ok(())
+    equal(&bytes, &[7, 0, 0])
+}
+
+// Each call on a connection that tells an error fails.
+fn is_not_waited_for(code: i32) -> Result<(), Fail> {
+    let clock = Ticks::new();
+    let mut broken = Patient::new(&clock, Broken(code));
+    let mut bytes = [0; 3];
+    let outcomes = (
+        broken.read(&mut bytes).is_err(),
+        broken.write(&bytes).is_err(),
+        broken.flush().is_err(),
+    );
+    equal(&outcomes, &(true, true, true))
+}
+
+#[test]
+fn ends_that_do_not_block_are_waited_for() -> Result<(), Fail> {
+    is_waited_for()?;
+    is_not_waited_for(32)
 }

@@ -1,5 +1,7 @@
 // The hub over TCP against a client in the same process.
-use fc_base::{Octets, Trouble};
+use crate::hearing::{brings, ends, hears, hears_bytes, moment, tells, two_seconds_passed};
+use crate::wanted::{equal, sure};
+use fc_base::Trouble;
 use fc_hub::{Hub, HubEvent, TcpHub};
 use std::alloc::Global;
 use std::io::{Read, Write};
@@ -33,36 +35,54 @@ fn listening<R: Net + Clock + Drop>(
     Ok(TcpHub::listen(alloc, rt, address.as_str(), connections)?)
 }
 
-#[test]
-fn a_client_is_served_over_tcp(rt: HostRuntime) -> Result<(), Fail> {
-    let alloc = rt.alloc();
-    let address = free_address(&rt)?;
-    let mut hub = listening(alloc, &rt, address, 2)?;
-    let first = moment(&mut hub)?;
-
-    let mut client = TcpStream::connect(&rt, address)?;
-    assert_eq!(rt; event(&mut hub)?, HubEvent::Opened(1));
+// The first client is heard, and gets what is sent to it; what is sent to one that is not there yet is lost.
+fn talks<H: Hub, S: Read + Write>(hub: &mut H, client: &mut S) -> Result<(), Fail> {
     client.write_all(&HEARTBEAT)?;
-    assert_eq!(rt; event(&mut hub)?, heartbeat(alloc, 1)?);
+    hears_bytes(hub, 1, &HEARTBEAT)?;
     hub.send(1, &ANSWER)?;
     hub.send(2, &HEARTBEAT)?;
-    let mut answer = [0; 24];
-    client.read_exact(&mut answer)?;
-    assert_eq!(rt; answer, ANSWER);
-    assert!(rt;
-        moment(&mut hub)? >= first.saturating_add(1000),
-        "a second has passed"
-    );
-    drop(client);
-    assert_eq!(rt; event(&mut hub)?, HubEvent::Closed(1));
-    hub.send(1, &ANSWER)?;
+    brings(client, ANSWER)
+}
 
-    let mut other = TcpStream::connect(&rt, address)?;
-    assert_eq!(rt; event(&mut hub)?, HubEvent::Opened(2));
-    hub.close(2)?;
-    assert_eq!(rt; other.read(&mut answer)?, 0);
-    assert_eq!(rt; hub.next()?, HubEvent::Over);
+// A second at least has passed since a moment when the next event tells one.
+fn a_second_has_passed<H: Hub>(hub: &mut H, since: u64) -> Result<(), Fail> {
+    let now = moment(hub)?;
+    sure(now >= since.saturating_add(1000), "a second has passed")
+}
+
+// The first client opens a connection, some time after a moment, and ends it; what is sent to it then is lost.
+fn serves_the_first<H: Hub>(
+    rt: &HostRuntime,
+    hub: &mut H,
+    address: SocketAddr,
+    since: u64,
+) -> Result<(), Fail> {
+    let mut client = TcpStream::connect(rt, address)?;
+    hears(hub, HubEvent::Opened(1))?;
+    talks(hub, &mut client)?;
+    a_second_has_passed(hub, since)?;
+    drop(client);
+    hears(hub, HubEvent::Closed(1))?;
+    hub.send(1, &ANSWER)?;
     Ok(())
+}
+
+// The second client opens a connection, and is closed from this side: that was the last one.
+fn closes_the_last<H: Hub>(rt: &HostRuntime, hub: &mut H, address: SocketAddr) -> Result<(), Fail> {
+    let mut client = TcpStream::connect(rt, address)?;
+    hears(hub, HubEvent::Opened(2))?;
+    hub.close(2)?;
+    ends(&mut client)?;
+    tells(hub, HubEvent::Over)
+}
+
+#[test]
+fn a_client_is_served_over_tcp(rt: HostRuntime) -> Result<(), Fail> {
+    let address = free_address(&rt)?;
+    let mut hub = listening(rt.alloc(), &rt, address, 2)?;
+    let first = moment(&mut hub)?;
+    serves_the_first(&rt, &mut hub, address, first)?;
+    closes_the_last(&rt, &mut hub, address)
 }
 
 // How many moments the hub tells before bytes come, each a second at least after the last.
@@ -77,103 +97,111 @@ fn moments_before_bytes<H: Hub>(hub: &mut H, last: &mut u64) -> Result<u32, Fail
     Err(Fail::from("no bytes"))
 }
 
-#[test]
-fn moments_are_told_while_bytes_come(rt: HostRuntime) -> Result<(), Fail> {
-    let alloc = rt.alloc();
-    let address = free_address(&rt)?;
-    let mut hub = listening(alloc, &rt, address, 2)?;
-    let _ = moment(&mut hub)?;
-    let mut client = TcpStream::connect(&rt, address)?;
-    assert_eq!(rt; event(&mut hub)?, HubEvent::Opened(1));
+// How many moments the hub tells while a client sends ten times, with pauses of three tenths of a second.
+fn moments_between_bytes<H: Hub, S: Write>(
+    rt: &HostRuntime,
+    hub: &mut H,
+    client: &mut S,
+) -> Result<u32, Fail> {
     let mut last = 0;
     let mut told = 0u32;
     for _ in 0..10u32 {
         client.write_all(&HEARTBEAT)?;
-        told = told.saturating_add(moments_before_bytes(&mut hub, &mut last)?);
+        told = told.saturating_add(moments_before_bytes(hub, &mut last)?);
         rt.sleep(Duration::from_millis(300));
     }
+    Ok(told)
+}
+
+#[test]
+fn moments_are_told_while_bytes_come(rt: HostRuntime) -> Result<(), Fail> {
+    let address = free_address(&rt)?;
+    let mut hub = listening(rt.alloc(), &rt, address, 2)?;
+    let _ = moment(&mut hub)?;
+    let mut client = TcpStream::connect(&rt, address)?;
+    hears(&mut hub, HubEvent::Opened(1))?;
+    let told = moments_between_bytes(&rt, &mut hub, &mut client)?;
     assert!(rt; told >= 2, "{told} moments");
     Ok(())
 }
 
-#[test]
-fn a_silent_connection_gives_way(rt: HostRuntime) -> Result<(), Fail> {
-    let alloc = rt.alloc();
-    let address = free_address(&rt)?;
-    let mut hub = listening(alloc, &rt, address, 2)?;
-    let _ = moment(&mut hub)?;
-    let mut silent = TcpStream::connect(&rt, address)?;
-    assert_eq!(rt; event(&mut hub)?, HubEvent::Opened(1));
-    let mut second = TcpStream::connect(&rt, address)?;
+// The first client stays silent while the second one waits and has sent something already: the first is closed, and the second served.
+fn takes_the_place<H: Hub, S: Write>(
+    rt: &HostRuntime,
+    hub: &mut H,
+    second: &mut S,
+) -> Result<(), Fail> {
     second.write_all(&HEARTBEAT)?;
     let start = rt.monotonic()?;
-    assert_eq!(rt; event(&mut hub)?, HubEvent::Closed(1));
-    assert_eq!(rt; event(&mut hub)?, HubEvent::Opened(2));
-    assert_eq!(rt; event(&mut hub)?, heartbeat(alloc, 2)?);
-    let took = rt.monotonic()?.saturating_sub(start);
-    assert!(rt; took >= Duration::from_millis(1500), "{took:?}");
-    assert!(rt; took < Duration::from_secs(20), "{took:?}");
-    assert_eq!(rt; silent.read(&mut [0; 1])?, 0);
+    hears(hub, HubEvent::Closed(1))?;
+    hears(hub, HubEvent::Opened(2))?;
+    hears_bytes(hub, 2, &HEARTBEAT)?;
+    two_seconds_passed(rt, start)
+}
 
-    let _third = TcpStream::connect(&rt, address)?;
+// The connection that is the last to be served stays, though it is silent and another client waits.
+fn stays<H: Hub>(rt: &HostRuntime, hub: &mut H, address: SocketAddr) -> Result<(), Fail> {
+    let _third = TcpStream::connect(rt, address)?;
     for _ in 0..4u32 {
-        let _ = moment(&mut hub)?;
+        let _ = moment(hub)?;
     }
     Ok(())
+}
+
+// The first client stays silent, and a second and a third one come.
+fn gives_way<H: Hub>(rt: &HostRuntime, hub: &mut H, address: SocketAddr) -> Result<(), Fail> {
+    let mut second = TcpStream::connect(rt, address)?;
+    takes_the_place(rt, hub, &mut second)?;
+    stays(rt, hub, address)
+}
+
+#[test]
+fn a_silent_connection_gives_way(rt: HostRuntime) -> Result<(), Fail> {
+    let address = free_address(&rt)?;
+    let mut hub = listening(rt.alloc(), &rt, address, 2)?;
+    let _ = moment(&mut hub)?;
+    let mut silent = TcpStream::connect(&rt, address)?;
+    hears(&mut hub, HubEvent::Opened(1))?;
+    gives_way(&rt, &mut hub, address)?;
+    ends(&mut silent)
+}
+
+// A client sends much that is not read, and is answered and closed: it gets the answer, and then the end.
+fn is_answered_and_closed<H: Hub, S: Read + Write>(
+    hub: &mut H,
+    client: &mut S,
+) -> Result<(), Fail> {
+    client.write_all(&[0; 20_000])?;
+    hub.send(1, &ANSWER)?;
+    hub.close(1)?;
+    brings(client, ANSWER)?;
+    ends(client)?;
+    tells(hub, HubEvent::Over)
 }
 
 #[test]
 fn a_peer_that_is_closed_gets_what_was_sent(rt: HostRuntime) -> Result<(), Fail> {
-    let alloc = rt.alloc();
     let address = free_address(&rt)?;
-    let mut hub = listening(alloc, &rt, address, 1)?;
+    let mut hub = listening(rt.alloc(), &rt, address, 1)?;
     let _ = moment(&mut hub)?;
     let mut client = TcpStream::connect(&rt, address)?;
-    assert_eq!(rt; event(&mut hub)?, HubEvent::Opened(1));
-    client.write_all(&[0; 20_000])?;
-    hub.send(1, &ANSWER)?;
-    hub.close(1)?;
-    let mut answer = [0; 24];
-    client.read_exact(&mut answer)?;
-    assert_eq!(rt; answer, ANSWER);
-    assert_eq!(rt; client.read(&mut answer)?, 0);
-    assert_eq!(rt; hub.next()?, HubEvent::Over);
-    Ok(())
+    hears(&mut hub, HubEvent::Opened(1))?;
+    is_answered_and_closed(&mut hub, &mut client)
+}
+
+// The first call of a hub fails.
+fn fails<H: Hub>(hub: &mut H) -> Result<(), Fail> {
+    equal(&hub.next(), &Err(Trouble::Failed))
 }
 
 #[test]
 fn an_address_in_use_is_a_fault(rt: HostRuntime) -> Result<(), Fail> {
-    let alloc = rt.alloc();
     let taken = TcpListener::bind(&rt, "127.0.0.1:0")?;
-    let mut second = listening(alloc, &rt, taken.local_addr()?, 1)?;
-    assert_eq!(rt; second.next(), Err(Trouble::Failed));
+    let mut second = listening(rt.alloc(), &rt, taken.local_addr()?, 1)?;
+    fails(&mut second)?;
     for address in ["127.0.0.1:x", ""] {
-        let mut second = TcpHub::listen(alloc, &rt, address, 1)?;
-        assert_eq!(rt; second.next(), Err(Trouble::Failed), "{address}");
+        let mut nowhere = TcpHub::listen(rt.alloc(), &rt, address, 1)?;
+        fails(&mut nowhere)?;
     }
     Ok(())
-}
-
-// The moment that the hub tells next.
-fn moment<H: Hub>(hub: &mut H) -> Result<u64, Fail> {
-    match hub.next()? {
-        HubEvent::Moment(now) => Ok(now),
-        _ => Err(Fail::from("no moment")),
-    }
-}
-
-// The next event that is no moment.
-fn event<H: Hub>(hub: &mut H) -> Result<HubEvent, Fail> {
-    for _ in 0..100u32 {
-        match hub.next()? {
-            HubEvent::Moment(_) => {}
-            event => return Ok(event),
-        }
-    }
-    Err(Fail::from("nothing but moments"))
-}
-
-// The heartbeat, as it comes from a peer.
-fn heartbeat(alloc: Global, peer: u32) -> Result<HubEvent, Fail> {
-    Ok(HubEvent::Bytes(peer, Octets::from_slice(alloc, &HEARTBEAT)?))
 }
