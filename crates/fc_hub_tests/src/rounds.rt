@@ -2,26 +2,22 @@
 ghost use Rattle.std.specs.Prelude.{IfOk, IsTrue};
 ghost use Rattle.fc_hub.specs.Rounds.{rise_above};
 
-use crate::wanted::equal;
 use fc_base::Trouble;
 use fc_hub::{FileRounds, MemRounds, Rounds, SureRounds};
 use std::alloc::Global;
 use std::test::Fail;
 use std::{env, fs, process};
 
-// The next numbers are these.
-fn counts<R: Rounds>(rounds: &mut R, wanted: &[u32]) -> Result<(), Fail> {
-    for number in wanted {
-        equal(&rounds.next()?, number)?;
-    }
-    Ok(())
-}
-
 #[test]
-fn sure_rounds_count_upwards() -> Result<(), Fail> {
-    counts(&mut SureRounds::new(5), &[5, 6])?;
+fn sure_rounds_count_upwards(rt: HostRuntime) -> Result<(), Fail> {
+    let mut rounds = SureRounds::new(5);
+    assert_eq!(rt; rounds.next()?, 5);
+    assert_eq!(rt; rounds.next()?, 6);
     let mut last = SureRounds::new(u32::MAX - 1);
-    counts(&mut last, &[u32::MAX - 1, u32::MAX, u32::MAX])
+    assert_eq!(rt; last.next()?, u32::MAX - 1);
+    assert_eq!(rt; last.next()?, u32::MAX);
+    assert_eq!(rt; last.next()?, u32::MAX);
+    Ok(())
 }
 
 // Three numbers that rise.
@@ -43,10 +39,12 @@ fn rounds_in_memory_fail_where_that_is_listed_and_past_the_last(
     let mut failing = Vec::new(alloc);
     failing.push(2)?;
     let mut rounds = MemRounds::new(three(alloc)?, failing);
-    let failed = Err(Trouble::Failed);
-    for wanted in [Ok(1), failed, Ok(7), Ok(u32::MAX), failed, failed] {
-        assert_eq!(rt; rounds.next(), wanted);
-    }
+    assert_eq!(rt; rounds.next(), Ok(1));
+    assert_eq!(rt; rounds.next(), Err(Trouble::Failed));
+    assert_eq!(rt; rounds.next(), Ok(7));
+    assert_eq!(rt; rounds.next(), Ok(u32::MAX));
+    assert_eq!(rt; rounds.next(), Err(Trouble::Failed));
+    assert_eq!(rt; rounds.next(), Err(Trouble::Failed));
     Ok(())
 }
 
@@ -72,87 +70,54 @@ fn clear(rt: &HostRuntime, path: &str) -> Result<(), Fail> {
     Ok(())
 }
 
-// Writes a text beside a path, where the next number stands before it takes the place of the last one.
-fn put_beside(rt: &HostRuntime, path: &str, text: &str) -> Result<(), Fail> {
-    let beside = format!(in rt.alloc(); "{path}.next")?;
-    fs::write(rt, beside.as_str(), text)?;
-    Ok(())
-}
-
-// The next number that another process takes is this one.
-fn counts_anew(rt: &HostRuntime, path: &str, wanted: u32) -> Result<(), Fail> {
-    equal(&next_in(rt, path)?, &Ok(wanted))
-}
-
-// Two processes count in turn; what a kill has left beside the file is no number that was given.
-fn counts_in_turn<R: Rounds>(rt: &HostRuntime, path: &str, rounds: &mut R) -> Result<(), Fail> {
-    counts(rounds, &[1, 2])?;
-    counts_anew(rt, path, 3)?;
-    counts(rounds, &[4])?;
-    put_beside(rt, path, "77")?;
-    counts_anew(rt, path, 5)
-}
-
-// Where another number was put in the file, the next one is above it and above what this process was given; the greatest is given again.
-fn counts_from_what_was_put<R: Rounds>(
-    rt: &HostRuntime,
-    path: &str,
-    rounds: &mut R,
-) -> Result<(), Fail> {
-    // without its line feed
-    fs::write(rt, path, "2")?;
-    counts(rounds, &[5])?;
-    fs::write(rt, path, "4294967294\n")?;
-    counts(rounds, &[u32::MAX, u32::MAX])?;
-    counts_anew(rt, path, u32::MAX)
-}
-
 #[test]
 fn a_file_keeps_the_number_of_the_last_round(rt: HostRuntime) -> Result<(), Fail> {
     let path = free_path(&rt, "rounds")?;
     let path = path.as_str();
     let mut rounds = FileRounds::at(rt.alloc(), &rt, path)?;
-    counts_in_turn(&rt, path, &mut rounds)?;
-    counts_from_what_was_put(&rt, path, &mut rounds)?;
-    put_beside(&rt, path, "")?;
+    assert_eq!(rt; rounds.next()?, 1);
+    assert_eq!(rt; rounds.next()?, 2);
+    assert_eq!(rt; next_in(&rt, path)??, 3);
+    assert_eq!(rt; rounds.next()?, 4);
+    // what a kill has left beside it is no number that was given
+    let beside = format!(in rt.alloc(); "{path}.next")?;
+    fs::write(&rt, beside.as_str(), "77")?;
+    assert_eq!(rt; next_in(&rt, path)??, 5);
+    // a number that was put in its place, without its line feed
+    fs::write(&rt, path, "2")?;
+    assert_eq!(rt; rounds.next()?, 5);
+    fs::write(&rt, path, "4294967294\n")?;
+    assert_eq!(rt; rounds.next()?, u32::MAX);
+    assert_eq!(rt; rounds.next()?, u32::MAX);
+    assert_eq!(rt; next_in(&rt, path)??, u32::MAX);
+    fs::write(&rt, beside.as_str(), "")?;
     clear(&rt, path)
 }
-
-// The next number can't be taken at a path.
-fn is_fault(rt: &HostRuntime, path: &str) -> Result<(), Fail> {
-    equal(&next_in(rt, path)?, &Err(Trouble::Failed))
-}
-
-// A file with a text that is no number is a fault, and stays as it is.
-fn is_no_number(rt: &HostRuntime, path: &str, text: &str) -> Result<(), Fail> {
-    fs::write(rt, path, text)?;
-    is_fault(rt, path)?;
-    equal(&fs::read_to_string(rt, path)?.as_str(), &text)
-}
-
-// What is no number of a round, with its line feed or without one.
-const NO_NUMBERS: [&str; 10] = [
-    "",
-    "\n",
-    "x\n",
-    "-1\n",
-    "+1\n",
-    " 1\n",
-    "1\n\n",
-    "1 \n",
-    "4294967296\n",
-    "00000000000000001\n",
-];
 
 #[test]
 fn a_file_that_holds_no_number_is_a_fault(rt: HostRuntime) -> Result<(), Fail> {
     let path = free_path(&rt, "none")?;
     let path = path.as_str();
-    for text in NO_NUMBERS {
-        is_no_number(&rt, path, text)?;
+    let failed = Err(Trouble::Failed);
+    for text in [
+        "",
+        "\n",
+        "x\n",
+        "-1\n",
+        "+1\n",
+        " 1\n",
+        "1\n\n",
+        "1 \n",
+        "4294967296\n",
+        "00000000000000001\n",
+    ] {
+        fs::write(&rt, path, text)?;
+        assert_eq!(rt; next_in(&rt, path)?, failed);
+        assert!(rt; fs::read_to_string(&rt, path)?.as_str() == text);
     }
     let below = format!(in rt.alloc(); "{path}/below")?;
-    is_fault(&rt, below.as_str())?;
-    put_beside(&rt, path, "")?;
+    assert_eq!(rt; next_in(&rt, below.as_str())?, failed);
+    let beside = format!(in rt.alloc(); "{path}.next")?;
+    fs::write(&rt, beside.as_str(), "")?;
     clear(&rt, path)
 }
