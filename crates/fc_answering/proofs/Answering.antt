@@ -1,5 +1,5 @@
 -- What an element becomes and says at a Config is what the protocol says, its kept response too.
-use Rattle.std.proofs.Common.{◌≡◌, ◌≢◌, ℕ, ◌+◌, ◌==◌, ◌&&◌, not, Bool, true, false, cond, List, [], ◌∷◌, ◌++◌, length, Option, Some, None, is_none, if◌then◌else◌, refl, sym, ap, ◌∙◌, subst, arith, append-nil}
+use Rattle.std.proofs.Common.{◌≡◌, ◌≢◌, ℕ, ◌+◌, ◌==◌, ◌&&◌, not, Bool, true, false, cond, List, [], ◌∷◌, ◌++◌, length, Option, Some, None, Err, is_none, if◌then◌else◌, refl, sym, ap, ◌∙◌, subst, arith, append-nil}
 use Rattle.std.specs.List.{flat_map}
 use Rattle.fc_abiding.specs.Abiding.{IsLike, IsNamed, circumstance, heard, seen}
 use Rattle.fc_abiding.specs.Responses.{shown_codes, telling, touched}
@@ -11,19 +11,22 @@ use Rattle.fc_abiding.proofs.Naming.{named_stay, new_named}
 use Rattle.fc_abiding.proofs.Reading.{all_read}
 use Rattle.fc_abiding.proofs.Responding.{acts_told}
 use Rattle.fc_abiding.proofs.Shaped.{Shaped, shaped}
-use Rattle.fc_abiding.proofs.Shown.{each_all, response_is, shown_all, touched_waits}
+use Rattle.fc_abiding.proofs.Shown.{AllAre, each_all, response_is, shown_all, touched_waits}
 use Rattle.fc_asks.specs.Codes.{code_of, first_bad, select_codes}
-use Rattle.fc_exec.specs.Operations.{operations}
+use Rattle.fc_exec.specs.Operations.{made, operations}
 use Rattle.fc_exec.specs.declared.operations.Operation.{Operation}
 use Rattle.fc_machine.specs.ElementState.{first_code, response_code}
 use Rattle.fc_machine.specs.Trace.{Fact, Of_protocol, Added_at, Plain_at, bare_facts}
 use Rattle.fc_msg.specs.declared.message.Message.{Message}
 use Rattle.fc_path.specs.declared.oper.Select.{Select}
+use Rattle.fc_performing.specs.Performing.{mode_of}
+use Rattle.std.specs.Option.{option_and_then}
+use Rattle.fc_exec.specs.declared.operations.Operation.TheVariants as operation
 use Rattle.fc_performing.specs.Notices.{notice_outs, route}
 use Rattle.fc_performing.specs.Sending.{responses}
 use Rattle.fc_performing.specs.declared.out.Out.{Out}
-use Rattle.fc_phases.specs.Asking.{asked, body_of, claim_or, ended, aborted, floor_in, floor_or_plain, opening_at, phase_asked, started, subject_at, with_subject, claim_word}
-use Rattle.fc_phases.specs.Shapes.{behind, first_full}
+use Rattle.fc_phases.specs.Asking.{floor_bytes, word_bytes, asked, body_of, claim_or, ended, aborted, floor_in, floor_or_plain, opening_at, phase_asked, started, subject_at, with_subject, claim_word}
+use Rattle.fc_phases.specs.Shapes.{behind, first_full, only_full}
 use Rattle.fc_phases.specs.declared.asked.Asked.{Asked}
 use Rattle.fc_phases.specs.declared.asked.Asked.TheVariants.{Claim, Floor, Plain, Start, Change, Commit, Complete as Completing, Abort as Aborting, Malformed}
 use Rattle.fc_phases.specs.declared.values.Opening.{Opening}
@@ -49,6 +52,8 @@ use Rattle.fc_transactions.specs.Order.{Step, asked_of, by_verdict, claim_in, co
 use Rattle.fc_transactions.specs.Phases.{Did, acts, all_get, executes, plain}
 use Rattle.fc_transactions.specs.State.{TransactionState, opened}
 use Rattle.fc_transactions.specs.declared.ledger.Ledger.{Ledger}
+use Rattle.fc_answering.specs.Mastership.{HasMastership}
+use Rattle.fc_answering.proofs.Written.{epoch_refused, floor_refused, put_at, refused_alone}
 use Rattle.fc_answering.specs.Answering.{AreSame, Goes, IsHeardWhole, is_shaped, is_unclaimed, keeping}
 
 -- ---- a response that is read
@@ -250,7 +255,7 @@ module _ (s : TransactionState) (kept : Option said.Message) (peer : ℕ) (m : M
     response : Option Message
     notices : List Out
     outs : t.outs ≡ responses peer response ++ notices
-    says : (is_unclaimed v && (m.source == s.ce && is_shaped (count == 0) a)) ≡ false → AreSame response (said_at s kept m selects codes a (body_of count a) v).says
+    says : ((is_unclaimed v && (m.source == s.ce && is_shaped (count == 0) a)) ≡ true → HasMastership s.ledger.store) → AreSame response (said_at s kept m selects codes a (body_of count a) v).says
 
   -- the codes of a Config that is executed: one for each operation
   abbrev emptied : Ledger
@@ -265,13 +270,51 @@ module _ (s : TransactionState) (kept : Option said.Message) (peer : ℕ) (m : M
   abbrev done : Bool → Bool → Did
   done ours at = if not ours then all_get s.ledger selects 12 else (if at then all_get s.ledger selects 21 else executes s.id s.ledger m selects)
 
-  unclaimed_says : (ours at : Bool) (a : Asked) → (at ≡ true → PhaseIs a) → (at ≡ false → (plain : ℕ) → is_shaped (count == 0) a ≡ false → unclaimed_code true plain (body_of count a) ≡ plain) → (ours && is_shaped (count == 0) a) ≡ false
+  -- one that writes the epoch or the floor gets one code, which the protocol knows
+  abbrev RefusedSo : Asked → Type 0
+  RefusedSo a = (code : ℕ) × ((plain : ℕ) → unclaimed_code true plain (body_of count a) ≡ code) × ((executes s.id s.ledger m selects).codes ≡ code ∷ [])
+
+  there : {A B : Type 0} (f : A → Option B) (o : Option A) (y : B) → option_and_then f o ≡ Some y → (x : A) × (o ≡ Some x)
+  there f None y e = cc
+  there f (Some x) y e = (x, refl)
+
+  claim_code : (w plain : ℕ) (first : Bool) → first ≡ true → unclaimed_code true plain (cond first (said.Claim w) said.Plain) ≡ 12
+  claim_code w plain true e = refl
+  claim_code w plain false e = cc
+
+  refused_at : (id code : ℕ) (bytes : List ℕ) → (code == 0) ≡ false → only_full id selects ≡ Some bytes → made (operation.Leaf (put_at id 126977 1 bytes)) s.ledger.store ≡ Err code → (executes s.id s.ledger m selects).codes ≡ code ∷ []
+  refused_at id code bytes some only e = refused_alone id code bytes selects s.ledger.store s.ledger.subscriptions (mode_of m.flags.em) some only e
+
+  floor_refuses : HasMastership s.ledger.store → (f : Option Subject) → floor_in selects ≡ f → is_shaped (count == 0) (floor_or_plain f) ≡ true → RefusedSo (floor_or_plain f)
+  floor_refuses has None e shape = absurd (cc shape)
+  floor_refuses has (Some f) e shape =
+      let (bytes, only) = there floor_bytes (only_full 6 selects) f e in
+      (9, (λ plain. refl), refused_at 6 9 bytes refl only (floor_refused s.ledger.store bytes has))
+
+  word_refuses : HasMastership s.ledger.store → (w : Option ℕ) → claim_word selects ≡ w → is_shaped (count == 0) (claim_or w selects) ≡ true → RefusedSo (claim_or w selects)
+  word_refuses has None e shape = floor_refuses has (floor_in selects) refl shape
+  word_refuses has (Some w) e shape =
+      let (bytes, only) = there word_bytes (only_full 1 selects) w e in
+      (12, (λ plain. claim_code w plain (count == 0) shape), refused_at 1 12 bytes refl only (epoch_refused s.ledger.store bytes has))
+
+  abbrev Unflagged : Asked → Type 0
+  Unflagged a = ((plain : ℕ) → is_shaped (count == 0) a ≡ false → unclaimed_code true plain (body_of count a) ≡ plain) × (is_shaped (count == 0) a ≡ true → HasMastership s.ledger.store → RefusedSo a)
+
+  executed_says : (a : Asked) → Unflagged a → (is_shaped (count == 0) a ≡ true → HasMastership s.ledger.store) → (shape : Bool) → is_shaped (count == 0) a ≡ shape → (codes : List ℕ) → codes ≡ (executes s.id s.ledger m selects).codes
+      → AreSame (reply m selects codes) (protocol.reply (is_none (reply m selects codes)) (stamp m.corr) (unclaimed_code true (response_code (shown_codes selects codes)) (body_of count a)))
+  executed_says a plain has false shape codes is =
+      same_reply m selects codes (unclaimed_code true (response_code (shown_codes selects codes)) (body_of count a)) (ap length is ∙ executed_long) (λ n. plain.0 (response_code (shown_codes selects codes)) shape)
+  executed_says a plain has true shape codes is =
+      let (code, told, one) = plain.1 shape (has shape) in
+      let all : AllAre code codes = subst (AllAre code) (sym (is ∙ one)) (refl, tt) in
+      same_reply m selects codes (unclaimed_code true (response_code (shown_codes selects codes)) (body_of count a)) (ap length is ∙ executed_long)
+      (λ n. told (response_code (shown_codes selects codes)) ∙ response_is code (shown_codes selects codes) (shown_all code (operations selects) codes all) n)
+
+  unclaimed_says : (ours at : Bool) (a : Asked) → (at ≡ true → PhaseIs a) → (at ≡ false → Unflagged a) → ((ours && is_shaped (count == 0) a) ≡ true → HasMastership s.ledger.store)
       → AreSame (reply m selects (done ours at).codes) (protocol.reply (is_none (reply m selects (done ours at).codes)) (stamp m.corr) (unclaimed_code ours (response_code (shown_codes selects (done ours at).codes)) (body_of count a)))
-  unclaimed_says false at a phase plain e = one_code m selects 12
-  unclaimed_says true true a phase plain e = subst (λ (code : ℕ). AreSame (reply m selects (each_gets 21 selects)) (protocol.reply (is_none (reply m selects (each_gets 21 selects))) (stamp m.corr) code)) (sym (phase refl count _)) (one_code m selects 21)
-  unclaimed_says true false a phase plain e =
-      let codes = (executes s.id s.ledger m selects).codes in
-      same_reply m selects codes (unclaimed_code true (response_code (shown_codes selects codes)) (body_of count a)) executed_long (λ n. plain refl (response_code (shown_codes selects codes)) e)
+  unclaimed_says false at a phase plain has = one_code m selects 12
+  unclaimed_says true true a phase plain has = subst (λ (code : ℕ). AreSame (reply m selects (each_gets 21 selects)) (protocol.reply (is_none (reply m selects (each_gets 21 selects))) (stamp m.corr) code)) (sym (phase refl count _)) (one_code m selects 21)
+  unclaimed_says true false a phase plain has = executed_says a (plain refl) has (is_shaped (count == 0) a) refl (executes s.id s.ledger m selects).codes refl
 
   not_first : (c sequence : ℕ) → (c == sequence + 1) ≡ true → (c == 0) ≡ false
   not_first c sequence e = grind arith
@@ -284,7 +327,7 @@ module _ (s : TransactionState) (kept : Option said.Message) (peer : ℕ) (m : M
   later_by false false true false false life h = absurd cc
   later_by false false false d e life h = absurd cc
 
-  at_by : (a : Asked) (v : Verdict) → Shaped selects a → (m.flags.at ≡ true → PhaseIs a) → (m.flags.at ≡ false → (plain : ℕ) → is_shaped (count == 0) a ≡ false → unclaimed_code true plain (body_of count a) ≡ plain)
+  at_by : (a : Asked) (v : Verdict) → Shaped selects a → (m.flags.at ≡ true → PhaseIs a) → (m.flags.at ≡ false → Unflagged a)
       → (v ≡ Next → is_epoch s.epoch ≡ true) → (v ≡ Next → (count == 0) ≡ false) → (codes : List ℕ) × At (by_verdict s peer m selects a v) a v codes
   at_by a (Claims e) shape phase plain is later = (
     each_gets 0 selects,
@@ -315,15 +358,15 @@ module _ (s : TransactionState) (kept : Option said.Message) (peer : ℕ) (m : M
       let said = same_reply m selects d.codes code (acts_long s.id s.epoch s.ledger m selects a shape) (acts_told s.id s.epoch s.ledger m selects named.records (is refl) a count shape (later refl)) in
       (d.codes, record { keeps = said; response = reply m selects d.codes; notices = notice_outs d.ledger.store.library (route s.id m.source peer) d.notices; outs = refl; says = λ n. said })
 
-  asked_phase : (at : Bool) → m.flags.at ≡ at → (at ≡ true → PhaseIs (asked_of m selects)) × (at ≡ false → (plain : ℕ) → is_shaped (count == 0) (asked_of m selects) ≡ false → unclaimed_code true plain (body_of count (asked_of m selects)) ≡ plain)
+  asked_phase : (at : Bool) → m.flags.at ≡ at → (at ≡ true → PhaseIs (asked_of m selects)) × (at ≡ false → Unflagged (asked_of m selects))
   asked_phase true e = (
     λ _. subst (λ at. PhaseIs (asked opening_type subject_type m.flags.em at m.flags.tp selects)) (sym e) (with_flag m.flags.em m.flags.tp selects),
     λ f. absurd (cc f),
   )
   asked_phase false e = (
     λ f. absurd (cc f),
-    λ _. subst (λ at. (plain : ℕ) → is_shaped (count == 0) (asked opening_type subject_type m.flags.em at m.flags.tp selects) ≡ false → unclaimed_code true plain (body_of count (asked opening_type subject_type m.flags.em at m.flags.tp selects)) ≡ plain) (sym e)
-        (λ plain. word_plain (claim_word selects) selects count plain),
+    λ _. subst (λ at. Unflagged (asked opening_type subject_type m.flags.em at m.flags.tp selects)) (sym e)
+        ((λ plain. word_plain (claim_word selects) selects count plain), (λ shape has. word_refuses has (claim_word selects) refl shape)),
   )
 
   abbrev x_of : Stamp

@@ -23,6 +23,7 @@ use Rattle.fc_protocol.specs.declared.verdict.Verdict.{Verdict}
 use Rattle.fc_protocol.specs.declared.verdict.Verdict.TheVariants.{Claim as Claims, Unclaimed, Stale, Again, Gap, Next}
 use Rattle.fc_transactions.specs.Order.{asked_of, configured, judged}
 use Rattle.fc_transactions.specs.State.{TransactionState}
+use Rattle.fc_answering.specs.Mastership.{HasMastership}
 
 -- the codes that a control element reads in a message
 abbrev pub codes_in : MsgBody → List ℕ
@@ -60,7 +61,7 @@ keeping s kept = record {
   last_ce = s.last_ce;
 }
 
--- At an element that no life has claimed the protocol knows the code of what has the shape of a claim or of a floor, and the store gives it. Whether it is one of these
+-- Whether it is a Config, of the control element of an element that no life has claimed, that writes the epoch or the floor and is no claim: what has the shape of a claim or of a floor. Its code is that of the store.
 abbrev pub is_shaped : Bool → Asked → Bool
 is_shaped first (Claim word) = first
 is_shaped first (Floor f) = true
@@ -92,7 +93,7 @@ pub record Goes (s : TransactionState) (before : Option said.Message) (peer : �
   pub response : Option Message
   pub notices : List Out
   pub outs : (configured s peer m selects).outs ≡ responses peer response ++ notices
-  pub says : is_by_store s m selects ≡ false → AreSame response h.says
+  pub says : (is_by_store s m selects ≡ true → HasMastership s.ledger.store) → AreSame response h.says
 
 -- the life is that of an element of the protocol which hears some requests, and keeps the same reply
 abbrev pub IsHeardWhole : ℕ → ℕ → Life → Type 0

@@ -1,8 +1,11 @@
 // What holds of each Config, and over all of them.
-ghost use Rattle.std.specs.Prelude.{ℕ, List, Option};
+ghost use Rattle.std.specs.Prelude.{◌≡◌, ℕ, List, Option, true};
+ghost use Rattle.std.specs.List.{list_all};
 ghost use Rattle.fc_abiding.specs.Abiding.{IsNamed};
 ghost use Rattle.fc_abiding.specs.Runs.{Came, life_of};
 ghost use Rattle.fc_answering.specs.Answering.{AreSame, Goes, IsHeardWhole};
+ghost use Rattle.fc_answering.specs.Mastership.{HasMastership};
+ghost use Rattle.fc_blocks.specs.Opening.{opened_store};
 ghost use Rattle.fc_element.specs.declared.input.ElIn.{ElIn};
 ghost use Rattle.fc_lives.specs.Lives.{life_after};
 ghost use Rattle.fc_msg.specs.declared.message.Message.{Message as Messages};
@@ -11,15 +14,21 @@ ghost use Rattle.fc_protocol.specs.ElementMachine.{Circumstance, Heard};
 ghost use Rattle.fc_protocol.specs.Messages as said;
 ghost use Rattle.fc_store.specs.Stores.{Stored};
 ghost use Rattle.fc_transactions.specs.State.{TransactionState};
+ghost use Rattle.fc_types.specs.Libraries.{is_own};
 ghost use Rattle.fc_types.specs.declared.class.Class.{Class as Classes};
 
 /// Whatever a Config asks, and whatever the verdict of the fence: an element that keeps a reply as the protocol does becomes what the protocol says in
 /// some circumstance, keeps the same reply, and sends first the response that the protocol says, or none where it says none. Of the code this is said
-/// where the response shows one; and not of what has the shape of a claim or of a floor, is none by the fence, and comes from the control element of an
-/// element that no life has claimed: there the store gives the code.
+/// where the response shows one. Where the control element of an element that no life has claimed writes the epoch or the floor, and that is no claim,
+/// the store gives the code; there it has to have class Mastership as each element has it.
 pub fn configs_go_by_the_protocol()
     ensures { (s : TransactionState) (before : Option said.Message) (peer : ℕ) (m : Messages) (selects : List Selects) → IsNamed s → AreSame s.kept before
         → (c : Circumstance) × (h : Heard) × Goes s before peer m selects c h }
+{}
+
+/// The store of each new element has class Mastership so.
+pub fn new_elements_have_mastership()
+    ensures { (library : List Classes) (instances : List (ℕ × ℕ)) → list_all is_own library ≡ true → HasMastership (opened_store library instances) }
 {}
 
 /// So a new element that some Configs came to is an element of the protocol that has heard some requests, and keeps the same reply.
