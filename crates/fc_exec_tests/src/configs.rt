@@ -1,4 +1,5 @@
 // The library of the tests, Configs by their text, and what they are answered.
+use crate::wanted::equal;
 use fc_base::{Code, List, Memory, OpFault};
 use fc_exec::exec;
 use fc_library::library_from_slice;
@@ -7,6 +8,7 @@ use fc_path::{Select, Spot, Step};
 use fc_store::Store;
 use fc_text::read_body;
 use std::alloc::Global;
+use std::test::Fail;
 
 // Of class 1001 numbers, a table with a key, a text that may be absent, a number that can only be read, and an event; of class 1002 one
 // table of 65,536 numbers.
@@ -20,7 +22,7 @@ pub(crate) fn opened(alloc: Global) -> Result<Store, Memory> {
     }
 }
 
-pub(crate) fn numbers(alloc: Global, codes: &[Code]) -> Result<Vec<u8>, Memory> {
+fn numbers(alloc: Global, codes: &[Code]) -> Result<Vec<u8>, Memory> {
     let mut numbers = Vec::new(alloc);
     for code in codes {
         numbers.push(code.0)?;
@@ -28,31 +30,42 @@ pub(crate) fn numbers(alloc: Global, codes: &[Code]) -> Result<Vec<u8>, Memory> 
     Ok(numbers)
 }
 
-// Whether these selects are answered with these codes.
+// These codes are the numbers that are wanted.
+pub(crate) fn codes_are(alloc: Global, codes: &[Code], wanted: &[u8]) -> Result<(), Fail> {
+    let codes = numbers(alloc, codes)?;
+    equal(&codes.as_slice(), &wanted)
+}
+
+// These selects are answered with these codes.
 pub(crate) fn gives(
     alloc: Global,
     store: &mut Store,
     mode: Mode,
     selects: &[Select],
     wanted: &[u8],
-) -> Result<bool, Memory> {
+) -> Result<(), Fail> {
     let codes = exec(alloc, store, selects, mode)?;
-    let codes = numbers(alloc, codes.as_slice())?;
-    Ok(codes.as_slice() == wanted)
+    codes_are(alloc, codes.as_slice(), wanted)
 }
 
-// Whether a Config, by its text, is answered with these codes.
+// A Config, by its text.
+pub(crate) fn config(alloc: Global, text: &str) -> Result<List<Select>, Fail> {
+    match read_body(alloc, text.as_bytes()) {
+        Ok(selects) => Ok(selects),
+        Err(_) => Err(Fail::from("no Config")),
+    }
+}
+
+// A Config, by its text, is answered with these codes.
 pub(crate) fn answers(
     alloc: Global,
     store: &mut Store,
     mode: Mode,
     text: &str,
     wanted: &[u8],
-) -> Result<bool, Memory> {
-    match read_body(alloc, text.as_bytes()) {
-        Ok(selects) => gives(alloc, store, mode, selects.as_slice(), wanted),
-        Err(_) => Ok(false),
-    }
+) -> Result<(), Fail> {
+    let selects = config(alloc, text)?;
+    gives(alloc, store, mode, selects.as_slice(), wanted)
 }
 
 fn spot(alloc: Global, class: u32, instance: u32, ids: &[u32]) -> Result<Spot, Memory> {
@@ -67,36 +80,56 @@ fn spot(alloc: Global, class: u32, instance: u32, ids: &[u32]) -> Result<Spot, M
     })
 }
 
-// Whether these bytes stand at a place of an instance of Port.
-pub(crate) fn holds(
-    alloc: Global,
-    store: &Store,
-    instance: u32,
-    ids: &[u32],
-    wanted: &[u8],
-) -> Result<bool, OpFault> {
-    let spot = spot(alloc, 4097, instance, ids)?;
-    let (ty, node) = store.at(&spot)?;
+// What stands at a place of an instance of Port: the instance, the place and the bytes.
+pub(crate) type Standing<'a> = (u32, &'a [u32], &'a [u8]);
+
+// The bytes at a place.
+fn bytes_at(alloc: Global, store: &Store, spot: &Spot) -> Result<Vec<u8>, OpFault> {
+    let (ty, node) = store.at(spot)?;
     let mut bytes = Vec::new(alloc);
     node.write_full(ty, &mut bytes)?;
-    Ok(bytes.as_slice() == wanted)
+    Ok(bytes)
 }
 
-// The code by which nothing is read at a place of the first Port, where it is refused.
-pub(crate) fn refusal(alloc: Global, store: &Store, ids: &[u32]) -> Result<Option<Code>, Memory> {
+fn stands(alloc: Global, store: &Store, standing: Standing) -> Result<(), Fail> {
+    let (instance, ids, wanted) = standing;
+    let spot = spot(alloc, 4097, instance, ids)?;
+    let bytes = bytes_at(alloc, store, &spot)?;
+    equal(&bytes.as_slice(), &wanted)
+}
+
+// All this stands in the store.
+pub(crate) fn holds(alloc: Global, store: &Store, standing: &[Standing]) -> Result<(), Fail> {
+    for standing in standing {
+        stands(alloc, store, *standing)?;
+    }
+    Ok(())
+}
+
+// In a mode a Config, by its text, is answered with these codes, and all this stands then.
+pub(crate) fn leaves(
+    alloc: Global,
+    store: &mut Store,
+    mode: Mode,
+    (text, wanted): (&str, &[u8]),
+    standing: &[Standing],
+) -> Result<(), Fail> {
+    answers(alloc, store, mode, text, wanted)?;
+    holds(alloc, store, standing)
+}
+
+// Nothing is read at a place of the first Port, as nothing is found there.
+pub(crate) fn holds_nothing(alloc: Global, store: &Store, ids: &[u32]) -> Result<(), Fail> {
     let spot = spot(alloc, 4097, 1, ids)?;
     match store.at(&spot) {
-        Ok(_) => Ok(None),
-        Err(fault) => match fault {
-            OpFault::Refused(code) => Ok(Some(code)),
-            OpFault::Memory => Err(Memory),
-        },
+        Err(OpFault::Refused(Code::NOT_FOUND)) => Ok(()),
+        _ => Err(Fail::from("something else than nothing")),
     }
 }
 
-// How many numbers stand in the table.
-pub(crate) fn entries(alloc: Global, store: &Store) -> Result<usize, OpFault> {
+// So many numbers stand in the table.
+pub(crate) fn has_entries(alloc: Global, store: &Store, wanted: usize) -> Result<(), Fail> {
     let spot = spot(alloc, 4098, 1, &[1])?;
     let (_, node) = store.at(&spot)?;
-    Ok(node.entries().len())
+    equal(&node.entries().len(), &wanted)
 }

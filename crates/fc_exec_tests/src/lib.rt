@@ -11,3 +11,5 @@ mod modes;
 mod ports;
 #[cfg(test)]
 mod scopes;
+#[cfg(test)]
+mod wanted;

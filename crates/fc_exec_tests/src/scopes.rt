@@ -1,29 +1,22 @@
 // Operations within the scope of a transaction, and two transactions that are held at once.
-use crate::configs::{holds, numbers, opened};
-use fc_base::Memory;
+use crate::configs::{Standing, codes_are, config, holds, opened};
 use fc_exec::exec_within;
 use fc_modes::Mode;
 use fc_store::Store;
-use fc_text::read_body;
 use std::alloc::Global;
 use std::test::Fail;
 
-// Whether a Config, by its text, is answered with these codes within a scope.
+// A Config, by its text, is answered with these codes within a scope.
 fn answers_within(
     alloc: Global,
     store: &mut Store,
     scope: &[(u32, u32)],
     mode: Mode,
-    text: &str,
-    wanted: &[u8],
-) -> Result<bool, Memory> {
-    let selects = match read_body(alloc, text.as_bytes()) {
-        Ok(selects) => selects,
-        Err(_) => return Ok(false),
-    };
+    (text, wanted): (&str, &[u8]),
+) -> Result<(), Fail> {
+    let selects = config(alloc, text)?;
     let codes = exec_within(alloc, store, scope, selects.as_slice(), mode)?;
-    let codes = numbers(alloc, codes.as_slice())?;
-    Ok(codes.as_slice() == wanted)
+    codes_are(alloc, codes.as_slice(), wanted)
 }
 
 // A COMMIT and two SETs at the second Port, and a SET at the first.
@@ -41,9 +34,9 @@ const SCOPES: [(&[(u32, u32)], [u8; 4]); 4] = [
 #[test]
 fn what_lies_outside_a_scope_is_refused(rt: HostRuntime) -> Result<(), Fail> {
     let alloc = rt.alloc();
-    for (scope, codes) in &SCOPES {
+    for (scope, codes) in SCOPES {
         let mut store = opened(alloc)?;
-        assert!(rt; answers_within(alloc, &mut store, scope, Mode::Continue, BOTH, codes)?);
+        answers_within(alloc, &mut store, scope, Mode::Continue, (BOTH, &codes))?;
     }
     Ok(())
 }
@@ -55,22 +48,26 @@ const SECOND: &str = "lfb 00001001 00000002\n  SET\n    path 1\n      full 00000
 const ACROSS: &str =
     "lfb 00001001 00000001\n  SET\n    path 1\n      full 00000009\nlfb 00001001 00000002\n  SET\n    path 1\n      full 00000009\n";
 
-// The first transaction is undone, the second one stays; a refused rest of either has changed nothing.
+// Each of the two transactions does its part, all of it or none; a rest of the first one that goes outside its scope has changed nothing.
+fn are_held(alloc: Global, store: &mut Store) -> Result<(), Fail> {
+    let mode = Mode::AllOrNone;
+    answers_within(alloc, store, &[(4097, 1)], mode, (FIRST, &[0x00]))?;
+    answers_within(alloc, store, &[(4097, 2)], mode, (SECOND, &[0x00]))?;
+    answers_within(alloc, store, &[(4097, 1)], mode, (ACROSS, &[0xFF, 0x10]))?;
+    holds(alloc, store, &[(1, &[1], &[0, 0, 0, 6])])
+}
+
+// The first transaction is undone, the second one stays.
 #[test]
 fn one_is_undone_and_the_other_stays(rt: HostRuntime) -> Result<(), Fail> {
     let alloc = rt.alloc();
     let mut store = opened(alloc)?;
     let first = store.mark_for(&[(4097, 1)])?;
     let second = store.mark_for(&[(4097, 2)])?;
-    let mode = Mode::AllOrNone;
-    assert!(rt; answers_within(alloc, &mut store, &[(4097, 1)], mode, FIRST, &[0x00])?);
-    assert!(rt; answers_within(alloc, &mut store, &[(4097, 2)], mode, SECOND, &[0x00])?);
-    assert!(rt; answers_within(alloc, &mut store, &[(4097, 1)], mode, ACROSS, &[0xFF, 0x10])?);
-    assert!(rt; holds(alloc, &store, 1, &[1], &[0, 0, 0, 6])?);
+    are_held(alloc, &mut store)?;
     store.rollback(first);
-    assert!(rt; holds(alloc, &store, 1, &[1], &[0, 0, 0, 0])?);
-    assert!(rt; holds(alloc, &store, 2, &[1], &[0, 0, 0, 7])?);
+    let standing: [Standing; 2] = [(1, &[1], &[0, 0, 0, 0]), (2, &[1], &[0, 0, 0, 7])];
+    holds(alloc, &store, &standing)?;
     store.release(second);
-    assert!(rt; holds(alloc, &store, 2, &[1], &[0, 0, 0, 7])?);
-    Ok(())
+    holds(alloc, &store, &[(2, &[1], &[0, 0, 0, 7])])
 }

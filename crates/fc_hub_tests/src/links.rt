@@ -268,21 +268,31 @@ fn fails_without_a_clock<H: Hub>(hub: &mut H, network: &Network) -> Result<(), F
     equal(&hub.send(1, &[1]), &Err(Trouble::Failed))
 }
 
-// A connection that tells an error is shut when something is sent, and has closed.
+// What is sent over a connection that tells an error shuts it, and it has closed.
+fn is_shut_and_closes<H: Hub>(hub: &mut H, network: &Network) -> Result<(), Fail> {
+    hub.send(1, &[1])?;
+    hears(hub, HubEvent::Closed(1))?;
+    sure(network.is_shut.get(), "it is shut")
+}
+
+// A connection that tells this error has closed.
 fn closes(alloc: Global, code: i32) -> Result<(), Fail> {
     let network = Network::new(None, Some(code));
     let mut hub = opened(alloc, &network, 1)?;
-    hub.send(1, &[1])?;
-    hears(&mut hub, HubEvent::Closed(1))?;
-    equal(&(code, network.is_shut.get()), &(code, true))
+    is_shut_and_closes(&mut hub, &network)
 }
 
-// A connection that tells an error stays.
+// Something is sent, and nothing has closed.
+fn is_sent<H: Hub>(hub: &mut H) -> Result<(), Fail> {
+    hub.send(1, &[1])?;
+    hears_nothing(hub, 9, "it stays")
+}
+
+// A connection that tells this error stays.
 fn stays(alloc: Global, code: i32) -> Result<(), Fail> {
     let network = Network::new(None, Some(code));
     let mut hub = opened(alloc, &network, 1)?;
-    hub.send(1, &[1])?;
-    hears_nothing(&mut hub, 9, "it stays")
+    is_sent(&mut hub)
 }
 
 #[test]
@@ -295,15 +305,20 @@ fn what_a_connection_tells_is_its_own(rt: HostRuntime) -> Result<(), Fail> {
     stays(rt.alloc(), AGAIN)
 }
 
-// Whether a hub whose listener tells an error bears that for so many calls, in which it tells nothing but moments.
-fn bears(alloc: Global, code: i32, calls: u32) -> Result<bool, Fail> {
-    let network = Network::new(Some(code), None);
-    let mut hub = listening(alloc, &network, 1)?;
-    match is_quiet(&mut hub, calls) {
+// Whether a hub tells nothing but moments in so many calls, and does not fail.
+fn goes_on<H: Hub>(hub: &mut H, calls: u32) -> Result<bool, Fail> {
+    match is_quiet(hub, calls) {
         Ok(true) => Ok(true),
         Err(Trouble::Failed) => Ok(false),
         _ => Err(Fail::from("an event, or no memory")),
     }
+}
+
+// Whether a hub whose listener tells this error bears it for so many calls.
+fn bears(alloc: Global, code: i32, calls: u32) -> Result<bool, Fail> {
+    let network = Network::new(Some(code), None);
+    let mut hub = listening(alloc, &network, 1)?;
+    goes_on(&mut hub, calls)
 }
 
 // Errors of the listener, for how many calls each is looked at, and whether the hub bears them.
@@ -333,12 +348,18 @@ fn what_a_listener_tells_may_be_a_fault(rt: HostRuntime) -> Result<(), Fail> {
     Ok(())
 }
 
+// Sends so many bytes to the first peer.
+fn send<H: Hub>(alloc: Global, hub: &mut H, count: usize) -> Result<(), Fail> {
+    let bytes = Vec::from_elem(alloc, 1u8, count)?;
+    hub.send(1, &bytes)?;
+    Ok(())
+}
+
 // How many bytes of so many a slow peer takes, and whether it was shut.
 fn taken(alloc: Global, count: usize) -> Result<(u32, bool), Fail> {
     let network = Network::new(None, None);
     let mut hub = opened(alloc, &network, 1)?;
-    let bytes = Vec::from_elem(alloc, 1u8, count)?;
-    hub.send(1, &bytes)?;
+    send(alloc, &mut hub, count)?;
     Ok((network.taken.get(), network.is_shut.get()))
 }
 
@@ -353,14 +374,19 @@ fn a_sending_takes_ten_seconds_as_a_whole(rt: HostRuntime) -> Result<(), Fail> {
 }
 
 // Connections one of whose options can't be set are passed over, and the next one is served: it is the first that is told.
+fn serves_the_next<H: Hub>(hub: &mut H, network: &Network, setting: Setting) -> Result<(), Fail> {
+    hears(hub, HubEvent::Opened(1))?;
+    sure(network.stuck.get() == (setting, 0), "all were passed over")?;
+    hears(hub, HubEvent::Closed(1))?;
+    hears(hub, HubEvent::Over)
+}
+
+// Nine connections of which this option can't be set are passed over.
 fn passes_over(alloc: Global, setting: Setting) -> Result<(), Fail> {
     let network = Network::new(None, Some(RESET));
     network.stuck.set((setting, 9));
     let mut hub = listening(alloc, &network, 1)?;
-    hears(&mut hub, HubEvent::Opened(1))?;
-    sure(network.stuck.get() == (setting, 0), "all were passed over")?;
-    hears(&mut hub, HubEvent::Closed(1))?;
-    hears(&mut hub, HubEvent::Over)
+    serves_the_next(&mut hub, &network, setting)
 }
 
 #[test]
@@ -375,13 +401,18 @@ fn a_connection_whose_options_fail_is_passed_over(rt: HostRuntime) -> Result<(),
     Ok(())
 }
 
+// A hub fails at its first call, before it listens.
+fn fails_at_once<R: Net + Clock + Drop>(alloc: Global, network: R) -> Result<(), Fail> {
+    let mut hub = TcpHub::listen(alloc, network, "127.0.0.1:1", 1)?;
+    fails(&mut hub)
+}
+
 #[test]
 fn a_clock_that_cannot_be_read_is_a_fault(rt: HostRuntime) -> Result<(), Fail> {
     let network = Network::new(None, None);
     let mut hub = opened(rt.alloc(), &network, 1)?;
     fails_without_a_clock(&mut hub, &network)?;
-    let mut unbound = TcpHub::listen(rt.alloc(), &network, "127.0.0.1:1", 1)?;
-    fails(&mut unbound)
+    fails_at_once(rt.alloc(), &network)
 }
 
 // How many moments, and how many other events, the hub tells until the clock stands here.
@@ -410,7 +441,8 @@ fn moments_are_told_between_short_connections(rt: HostRuntime) -> Result<(), Fai
     Ok(())
 }
 
-// A connection is silent for two seconds since its last bytes where none waits, and stays; where one waits, it closes after two silences.
+// A connection that is silent stays where none waits. Where one waits, it closes after two silences since its last bytes, and the next one, which
+// is the last that is to be served, stays.
 fn gives_way<H: Hub>(hub: &mut H, network: &Network) -> Result<(), Fail> {
     network.accepting.set(Some(AGAIN));
     hears_nothing(hub, 9, "none waits")?;
@@ -418,16 +450,16 @@ fn gives_way<H: Hub>(hub: &mut H, network: &Network) -> Result<(), Fail> {
     network.accepting.set(None);
     network.silences.set(0);
     hears(hub, HubEvent::Closed(1))?;
-    equal(&network.silences.get(), &2)
+    equal(&network.silences.get(), &2)?;
+    hears(hub, HubEvent::Opened(2))?;
+    hears_nothing(hub, 99, "the last stays")
 }
 
 #[test]
 fn two_silences_give_way_to_one_that_waits(rt: HostRuntime) -> Result<(), Fail> {
     let network = Network::new(None, None);
     let mut hub = opened(rt.alloc(), &network, 2)?;
-    gives_way(&mut hub, &network)?;
-    hears(&mut hub, HubEvent::Opened(2))?;
-    hears_nothing(&mut hub, 99, "the last stays")
+    gives_way(&mut hub, &network)
 }
 
 // The connection brings bytes for twelve seconds.
@@ -439,22 +471,23 @@ fn serves_for_long<H: Hub>(hub: &mut H, network: &Network) -> Result<(), Fail> {
     Ok(())
 }
 
-// There is no descriptor for one that waits: that is borne anew after bytes, and for one more call after the connection has closed.
+// There is no descriptor for one that waits: that is borne anew after bytes, and for one more call after the connection has closed, and then no
+// more.
 fn counts_anew<H: Hub>(hub: &mut H, network: &Network) -> Result<(), Fail> {
     network.accepting.set(Some(TOO_MANY_OPEN));
     hears_nothing(hub, 9, "before bytes")?;
     serves_for_long(hub, network)?;
     hears_nothing(hub, 9, "after bytes")?;
     hub.close(1)?;
-    hears_nothing(hub, 1, "after the end")
+    hears_nothing(hub, 1, "after the end")?;
+    fails(hub)
 }
 
 #[test]
 fn a_lack_of_descriptors_counts_anew_where_one_is_served(rt: HostRuntime) -> Result<(), Fail> {
     let network = Network::new(None, None);
     let mut hub = opened(rt.alloc(), &network, 2)?;
-    counts_anew(&mut hub, &network)?;
-    fails(&mut hub)
+    counts_anew(&mut hub, &network)
 }
 
 // A hub that dials so many addresses, for so many connections, and has told its first moment.
@@ -484,14 +517,19 @@ fn passes_over_all<H: Hub>(hub: &mut H, network: &Network) -> Result<(), Fail> {
     hears(hub, HubEvent::Over)
 }
 
+// Without an address a hub tells the end behind its first moment.
+fn dials_nobody<R: Net + Clock + Drop>(alloc: Global, network: R) -> Result<(), Fail> {
+    let mut hub = dialling(alloc, network, 0, 7)?;
+    tells(&mut hub, HubEvent::Over)
+}
+
 #[test]
 fn who_does_not_answer_is_passed_over(rt: HostRuntime) -> Result<(), Fail> {
     let network = Network::new(None, None);
     network.refuses.set(true);
     let mut hub = dialling(rt.alloc(), &network, 3, 7)?;
     passes_over_all(&mut hub, &network)?;
-    let mut nobody = dialling(rt.alloc(), &network, 0, 7)?;
-    tells(&mut nobody, HubEvent::Over)
+    dials_nobody(rt.alloc(), &network)
 }
 
 // A peer is dialled, and its connection, which tells an error, is shut when something is sent and closes.
@@ -502,14 +540,19 @@ fn ends_by_itself<H: Hub>(hub: &mut H, network: &Network, peer: u32) -> Result<(
     hears(hub, HubEvent::Closed(peer))
 }
 
+// Two peers are dialled in turn, until the connections are used up.
+fn all_end<H: Hub>(hub: &mut H, network: &Network) -> Result<(), Fail> {
+    for peer in [1, 2, 1] {
+        ends_by_itself(hub, network, peer)?;
+    }
+    hears(hub, HubEvent::Over)
+}
+
 #[test]
 fn a_dialled_connection_ends_by_itself(rt: HostRuntime) -> Result<(), Fail> {
     let network = Network::new(None, Some(RESET));
     let mut hub = dialling(rt.alloc(), &network, 2, 3)?;
-    for peer in [1, 2, 1] {
-        ends_by_itself(&mut hub, &network, peer)?;
-    }
-    hears(&mut hub, HubEvent::Over)
+    all_end(&mut hub, &network)
 }
 
 // The first address is dialled, and its connection closes when it was silent twice since its last bytes. The second one is passed over,
