@@ -1,23 +1,31 @@
 // Rounds in memory, and those that a file keeps.
-ghost use Rattle.std.specs.Prelude.{IfOk, IsTrue};
+ghost use Rattle.std.specs.Prelude.{IfOk, IsTrue, ◌<◌, ◌≤◌, ◌+◌};
 ghost use Rattle.fc_hub.specs.Rounds.{rise_above};
 
+use crate::wanted::equal;
 use fc_base::Trouble;
 use fc_hub::{FileRounds, MemRounds, Rounds, SureRounds};
 use std::alloc::Global;
 use std::test::Fail;
 use std::{env, fs, process};
 
+// The next number is this one.
+fn gives<R: Rounds>(rounds: &mut R, wanted: u32) -> Result<(), Fail>
+    requires { (R.given rounds.old).count < 1000 }
+    ensures { (R.given rounds.new).count ≤ (R.given rounds.old).count + 1 }
+{
+    equal(&rounds.next()?, &wanted)
+}
+
 #[test]
-fn sure_rounds_count_upwards(rt: HostRuntime) -> Result<(), Fail> {
+fn sure_rounds_count_upwards() -> Result<(), Fail> {
     let mut rounds = SureRounds::new(5);
-    assert_eq!(rt; rounds.next()?, 5);
-    assert_eq!(rt; rounds.next()?, 6);
+    gives(&mut rounds, 5)?;
+    gives(&mut rounds, 6)?;
     let mut last = SureRounds::new(u32::MAX - 1);
-    assert_eq!(rt; last.next()?, u32::MAX - 1);
-    assert_eq!(rt; last.next()?, u32::MAX);
-    assert_eq!(rt; last.next()?, u32::MAX);
-    Ok(())
+    gives(&mut last, u32::MAX - 1)?;
+    gives(&mut last, u32::MAX)?;
+    gives(&mut last, u32::MAX)
 }
 
 // Three numbers that rise.
@@ -70,35 +78,73 @@ fn clear(rt: &HostRuntime, path: &str) -> Result<(), Fail> {
     Ok(())
 }
 
+// Another process would take this number next.
+fn gives_another(rt: &HostRuntime, path: &str, wanted: u32) -> Result<(), Fail> {
+    equal(&next_in(rt, path)??, &wanted)
+}
+
+// The numbers go on whoever takes them.
+fn goes_on<R: Rounds>(rt: &HostRuntime, path: &str, rounds: &mut R) -> Result<(), Fail>
+    requires { (R.given rounds.old).count < 100 }
+    ensures { (R.given rounds.new).count ≤ (R.given rounds.old).count + 3 }
+{
+    gives(rounds, 1)?;
+    gives(rounds, 2)?;
+    gives_another(rt, path, 3)?;
+    gives(rounds, 4)
+}
+
+// What a kill has left beside it is no number that was given.
+fn passes_over_what_lies_beside(rt: &HostRuntime, path: &str, text: &str) -> Result<(), Fail> {
+    let beside = format!(in rt.alloc(); "{path}.next")?;
+    fs::write(rt, beside.as_str(), text)?;
+    Ok(())
+}
+
+// A number that was put in its place, without its line feed.
+fn goes_on_from<R: Rounds>(rt: &HostRuntime, path: &str, rounds: &mut R) -> Result<(), Fail>
+    requires { (R.given rounds.old).count < 100 }
+    ensures { (R.given rounds.new).count ≤ (R.given rounds.old).count + 1 }
+{
+    fs::write(rt, path, "2")?;
+    gives(rounds, 5)
+}
+
+// The last number stays.
+fn stays_at_the_last<R: Rounds>(rt: &HostRuntime, path: &str, rounds: &mut R) -> Result<(), Fail>
+    requires { (R.given rounds.old).count < 100 }
+{
+    fs::write(rt, path, "4294967294\n")?;
+    gives(rounds, u32::MAX)?;
+    gives(rounds, u32::MAX)?;
+    gives_another(rt, path, u32::MAX)
+}
+
 #[test]
 fn a_file_keeps_the_number_of_the_last_round(rt: HostRuntime) -> Result<(), Fail> {
     let path = free_path(&rt, "rounds")?;
     let path = path.as_str();
     let mut rounds = FileRounds::at(rt.alloc(), &rt, path)?;
-    assert_eq!(rt; rounds.next()?, 1);
-    assert_eq!(rt; rounds.next()?, 2);
-    assert_eq!(rt; next_in(&rt, path)??, 3);
-    assert_eq!(rt; rounds.next()?, 4);
-    // what a kill has left beside it is no number that was given
-    let beside = format!(in rt.alloc(); "{path}.next")?;
-    fs::write(&rt, beside.as_str(), "77")?;
-    assert_eq!(rt; next_in(&rt, path)??, 5);
-    // a number that was put in its place, without its line feed
-    fs::write(&rt, path, "2")?;
-    assert_eq!(rt; rounds.next()?, 5);
-    fs::write(&rt, path, "4294967294\n")?;
-    assert_eq!(rt; rounds.next()?, u32::MAX);
-    assert_eq!(rt; rounds.next()?, u32::MAX);
-    assert_eq!(rt; next_in(&rt, path)??, u32::MAX);
-    fs::write(&rt, beside.as_str(), "")?;
+    goes_on(&rt, path, &mut rounds)?;
+    passes_over_what_lies_beside(&rt, path, "77")?;
+    gives_another(&rt, path, 5)?;
+    goes_on_from(&rt, path, &mut rounds)?;
+    stays_at_the_last(&rt, path, &mut rounds)?;
+    passes_over_what_lies_beside(&rt, path, "")?;
     clear(&rt, path)
+}
+
+// What such a file holds stays, and each call fails.
+fn fails_and_stays(rt: &HostRuntime, path: &str, text: &str) -> Result<(), Fail> {
+    fs::write(rt, path, text)?;
+    equal(&next_in(rt, path)?, &Err(Trouble::Failed))?;
+    equal(&fs::read_to_string(rt, path)?.as_str(), &text)
 }
 
 #[test]
 fn a_file_that_holds_no_number_is_a_fault(rt: HostRuntime) -> Result<(), Fail> {
     let path = free_path(&rt, "none")?;
     let path = path.as_str();
-    let failed = Err(Trouble::Failed);
     for text in [
         "",
         "\n",
@@ -111,13 +157,10 @@ fn a_file_that_holds_no_number_is_a_fault(rt: HostRuntime) -> Result<(), Fail> {
         "4294967296\n",
         "00000000000000001\n",
     ] {
-        fs::write(&rt, path, text)?;
-        assert_eq!(rt; next_in(&rt, path)?, failed);
-        assert!(rt; fs::read_to_string(&rt, path)?.as_str() == text);
+        fails_and_stays(&rt, path, text)?;
     }
     let below = format!(in rt.alloc(); "{path}/below")?;
-    assert_eq!(rt; next_in(&rt, below.as_str())?, failed);
-    let beside = format!(in rt.alloc(); "{path}.next")?;
-    fs::write(&rt, beside.as_str(), "")?;
+    equal(&next_in(&rt, below.as_str())?, &Err(Trouble::Failed))?;
+    passes_over_what_lies_beside(&rt, path, "")?;
     clear(&rt, path)
 }
