@@ -24,51 +24,99 @@ fn identifiers_have_their_ranges(rt: HostRuntime) -> Result<(), Fail> {
     Ok(())
 }
 
+// The controller 1.
+fn controller() -> Result<CeId, Fail> {
+    match CeId::of(0x4000_0001) {
+        Some(ce) => Ok(ce),
+        None => Err(Fail::from("no controller")),
+    }
+}
+
+// The word of the epoch of a round.
+fn word_of(round: u32, ce: CeId) -> Option<u32> {
+    match Epoch::of(round, ce) {
+        Some(epoch) => Some(epoch.get()),
+        None => None,
+    }
+}
+
 #[test]
 fn epochs_are_of_a_round_and_a_controller(rt: HostRuntime) -> Result<(), Fail> {
-    let ce = CeId::of(0x4000_0001).ok_or("a controller")?;
+    let ce = controller()?;
     assert_eq!(rt; ce.number(), 1);
-    for (round, epoch) in [(0, None), (1, Some(257)), (16_777_216, None)] {
-        assert_eq!(rt; Epoch::of(round, ce).map(|epoch| epoch.get()), epoch);
+    for (round, word) in [(0, None), (1, Some(257)), (16_777_216, None)] {
+        assert_eq!(rt; word_of(round, ce), word, "{round}");
     }
     Ok(())
 }
 
 #[test]
-fn transactions_are_of_an_epoch_and_a_number(rt: HostRuntime) -> Result<(), Fail> {
-    for word in [255, 256] {
-        assert_eq!(rt; Epoch::from_word(word), None);
+fn epochs_are_of_words(rt: HostRuntime) -> Result<(), Fail> {
+    let first = Epoch::of(1, controller()?);
+    for (word, epoch) in [(255, None), (256, None), (257, first)] {
+        assert_eq!(rt; Epoch::from_word(word), epoch, "{word}");
     }
-    let epoch = Epoch::from_word(257).ok_or("an epoch")?;
-    assert_eq!(rt;
-        Some(epoch),
-        Epoch::of(1, CeId::of(0x4000_0001).ok_or("a controller")?)
-    );
-    assert_eq!(rt; TxnId::of(epoch, 0), None);
-    assert_eq!(rt; TxnId::of(epoch, 4).ok_or("a transaction")?.number, 4);
+    assert!(rt; first.is_some());
+    Ok(())
+}
+
+// The epoch of a word.
+fn epoch(word: u32) -> Result<Epoch, Fail> {
+    match Epoch::from_word(word) {
+        Some(epoch) => Ok(epoch),
+        None => Err(Fail::from("no epoch")),
+    }
+}
+
+// The number of the transaction of an epoch and a number.
+fn number_of(epoch: Epoch, number: u32) -> Option<u32> {
+    match TxnId::of(epoch, number) {
+        Some(txn) => Some(txn.number),
+        None => None,
+    }
+}
+
+#[test]
+fn transactions_are_of_an_epoch_and_a_number(rt: HostRuntime) -> Result<(), Fail> {
+    let epoch = epoch(257)?;
+    for (number, told) in [(0, None), (4, Some(4))] {
+        assert_eq!(rt; number_of(epoch, number), told);
+    }
     Ok(())
 }
 
 #[test]
 fn codes_have_names(rt: HostRuntime) -> Result<(), Fail> {
     for (code, name) in [
-        (Code::SUCCESS, "SUCCESS"),
-        (Code::INVALID_PATH, "INVALID_PATH"),
-        (Code::INVALID_TLV, "INVALID_TLV"),
-        (Code::UNSPECIFIED_ERROR, "UNSPECIFIED_ERROR"),
+        (Code::SUCCESS, Some("SUCCESS")),
+        (Code::INVALID_PATH, Some("INVALID_PATH")),
+        (Code::INVALID_TLV, Some("INVALID_TLV")),
+        (Code::UNSPECIFIED_ERROR, Some("UNSPECIFIED_ERROR")),
+        (Code(0x11), None),
     ] {
-        assert_eq!(rt; code.name().ok_or("a name")?, name);
+        assert_eq!(rt; code.name(), name);
     }
-    assert!(rt; Code(0x11).name().is_none());
+    Ok(())
+}
+
+#[test]
+fn numbers_have_their_digits(rt: HostRuntime) -> Result<(), Fail> {
     assert_eq!(rt; eight_digits(0xff00_12ab), *b"FF0012AB");
     assert_eq!(rt; sixteen_digits(0x0123_4567_89ab_cdef), *b"0123456789ABCDEF");
     Ok(())
 }
 
+// The transaction of the last epoch with this number.
+fn last_transaction(number: u32) -> Result<TxnId, Fail> {
+    match TxnId::of(epoch(0xffff_ffff)?, number) {
+        Some(txn) => Ok(txn),
+        None => Err(Fail::from("no transaction")),
+    }
+}
+
 #[test]
 fn transactions_print_their_epoch_and_number(rt: HostRuntime) -> Result<(), Fail> {
-    let epoch = Epoch::from_word(0xffff_ffff).ok_or("an epoch")?;
-    let txn = TxnId::of(epoch, 4).ok_or("a transaction")?;
+    let txn = last_transaction(4)?;
     let text = format!(in rt.alloc(); "{txn}")?;
     assert_eq!(rt; text.as_str(), "4294967295.4");
     Ok(())
@@ -79,6 +127,11 @@ fn bytes_have_two_digits_each(rt: HostRuntime) -> Result<(), Fail> {
     assert_eq!(rt; two_digits(0xa5), *b"A5");
     assert_eq!(rt; digits_of_four(&[0, 0x1f, 0xf1, 0xff]), *b"001FF1FF");
     assert_eq!(rt; digits_of_eight(b"abcdefgh"), *b"6162636465666768");
+    Ok(())
+}
+
+#[test]
+fn digits_are_appended(rt: HostRuntime) -> Result<(), Fail> {
     let mut text = Vec::from_slice(rt.alloc(), b"hex ")?;
     push_hex(&mut text, b"abcdefghijklm")?;
     assert_eq!(rt;

@@ -1,6 +1,9 @@
 // Headers, TLVs and ILVs that stand in the specification of the format.
-use fc_base::{Duplicate, Octets, WriteFault};
+ghost use Rattle.std.specs.Prelude.{◌≡◌, OnOk};
+
+use fc_base::{Duplicate, Memory, Octets, WriteFault};
 use fc_wire::{Flags, Header, Ilv, Ilvs, TlvWriter, Tlvs, WireFault, push_padding};
+use std::alloc::Global;
 use std::test::Fail;
 
 // The header of a heartbeat, and the query of one component with its answer, without their headers.
@@ -138,52 +141,86 @@ fn an_ilv_is_copied(rt: HostRuntime) -> Result<(), Fail> {
     Ok(())
 }
 
-#[test]
-fn tlvs_are_written(rt: HostRuntime) -> Result<(), Fail> {
-    let alloc = rt.alloc();
-    let mut writer = TlvWriter::new(alloc);
-    let select = writer.begin(0x1000)?;
-    writer.put(&[0, 0, 0, 1, 0, 0, 0, 1])?;
-    let operation = writer.begin(9)?;
+// Writes a TLV of these bytes.
+fn write_tlv(writer: &mut TlvWriter, kind: u16, value: &[u8]) -> Result<(), WriteFault>
+    ensures { OnOk result (writer.new.places ≡ writer.old.places) }
+{
+    let begun = writer.begin(kind)?;
+    writer.put(value)?;
+    writer.end(begun)
+}
+
+// Writes the path of the answer, with its value.
+fn write_path(writer: &mut TlvWriter) -> Result<(), WriteFault>
+    ensures { OnOk result (writer.new.places ≡ writer.old.places) }
+{
     let path = writer.begin(0x110)?;
     writer.put(&[0, 0, 0, 1, 0, 0, 0, 7])?;
-    let full = writer.begin(0x112)?;
-    writer.put(&[2])?;
-    writer.end(full)?;
-    writer.end(path)?;
-    writer.end(operation)?;
+    write_tlv(writer, 0x112, &[2])?;
+    writer.end(path)
+}
+
+// Writes the operation of the answer, which is one path.
+fn write_operation(writer: &mut TlvWriter) -> Result<(), WriteFault>
+    ensures { OnOk result (writer.new.places ≡ writer.old.places) }
+{
+    let operation = writer.begin(9)?;
+    write_path(writer)?;
+    writer.end(operation)
+}
+
+#[test]
+fn tlvs_are_written(rt: HostRuntime) -> Result<(), Fail> {
+    let mut writer = TlvWriter::new(rt.alloc());
+    let select = writer.begin(0x1000)?;
+    writer.put(&[0, 0, 0, 1, 0, 0, 0, 1])?;
+    write_operation(&mut writer)?;
     writer.end(select)?;
     assert_eq!(rt; writer.as_slice(), ANSWER.as_slice());
     Ok(())
 }
 
-#[test]
-fn a_writer_that_is_cleared_begins_anew(rt: HostRuntime) -> Result<(), Fail> {
-    let mut writer = TlvWriter::new(rt.alloc());
+// A writer that was cleared once bytes were put.
+fn cleared(alloc: Global) -> Result<TlvWriter, Memory> {
+    let mut writer = TlvWriter::new(alloc);
     writer.put(&[0, 0, 0, 1])?;
     writer.clear();
+    Ok(writer)
+}
+
+#[test]
+fn a_writer_that_is_cleared_begins_anew(rt: HostRuntime) -> Result<(), Fail> {
+    let mut writer = cleared(rt.alloc())?;
     assert!(rt; writer.as_slice().is_empty());
-    let commit = writer.begin(12)?;
-    writer.end(commit)?;
+    write_tlv(&mut writer, 12, &[])?;
     assert_eq!(rt; writer.finish().as_slice(), [0u8, 12, 0, 4].as_slice());
     Ok(())
 }
 
-#[test]
-fn the_longest_tlv_is_written_and_a_longer_one_refused(rt: HostRuntime) -> Result<(), Fail> {
-    let alloc = rt.alloc();
-    let value = vec![in alloc; 1u8; 65531]?;
-    let mut writer = TlvWriter::new(alloc);
-    let longest = writer.begin(0x112)?;
-    writer.put(&value)?;
-    writer.end(longest)?;
+// Begins a TLV of these bytes and one more, and tells what its end answers. Behind it come another byte and padding.
+fn write_longer(writer: &mut TlvWriter, value: &[u8]) -> Result<Result<(), WriteFault>, Memory> {
     let longer = writer.begin(0x112)?;
-    writer.put(&value)?;
+    writer.put(value)?;
     writer.put(&[1])?;
-    assert!(rt; writer.end(longer) == Err(WriteFault::TooLong));
+    let answer = writer.end(longer);
     writer.put(&[1])?;
     writer.pad()?;
-    let bytes = writer.finish();
+    Ok(answer)
+}
+
+// The bytes of the longest TLV with those of a longer one behind it, and what the end of that one answers.
+fn longest_and_longer(alloc: Global) -> Result<(Vec<u8>, Result<(), WriteFault>), Fail> {
+    let value = vec![in alloc; 1u8; 65531]?;
+    let mut writer = TlvWriter::new(alloc);
+    write_tlv(&mut writer, 0x112, &value)?;
+    let answer = write_longer(&mut writer, &value)?;
+    Ok((writer.finish(), answer))
+}
+
+#[test]
+fn the_longest_tlv_is_written_and_a_longer_one_refused(rt: HostRuntime) -> Result<(), Fail> {
+    let (bytes, answer) = longest_and_longer(rt.alloc())?;
+    assert!(rt; answer == Err(WriteFault::TooLong));
     assert_eq!(rt; bytes.len(), 65536 + 65536 + 4);
     for (at, want) in [(3, 0xff), (4, 1), (65535, 0), (65536, 1), (65539, 0)] {
         assert_eq!(rt; bytes.get(at).copied(), Some(want), "at {at}");
@@ -191,20 +228,34 @@ fn the_longest_tlv_is_written_and_a_longer_one_refused(rt: HostRuntime) -> Resul
     Ok(())
 }
 
-#[test]
-fn numbers_and_padding_are_put(rt: HostRuntime) -> Result<(), Fail> {
-    let alloc = rt.alloc();
+// Two numbers, and the padding that a length of 5 lacks.
+fn numbers(alloc: Global) -> Result<Vec<u8>, Memory> {
     let mut writer = TlvWriter::new(alloc);
     writer.put_u16(0x0112)?;
     writer.put_u32(0x4000_0001)?;
     writer.put_padding(5)?;
-    assert_eq!(rt;
-        writer.as_slice(),
-        [1u8, 0x12, 0x40, 0, 0, 1, 0, 0, 0].as_slice()
-    );
+    Ok(writer.finish())
+}
+
+#[test]
+fn numbers_are_put(rt: HostRuntime) -> Result<(), Fail> {
+    let bytes = numbers(rt.alloc())?;
+    let wanted = [1u8, 0x12, 0x40, 0, 0, 1, 0, 0, 0];
+    assert_eq!(rt; bytes.as_slice(), wanted.as_slice());
+    Ok(())
+}
+
+// Two bytes, the padding that a length of 2 lacks, and that of a length of 4.
+fn padded(alloc: Global) -> Result<Vec<u8>, Memory> {
     let mut bytes = Vec::from_slice(alloc, b"ab")?;
     push_padding(&mut bytes, 2)?;
     push_padding(&mut bytes, 4)?;
+    Ok(bytes)
+}
+
+#[test]
+fn padding_is_put(rt: HostRuntime) -> Result<(), Fail> {
+    let bytes = padded(rt.alloc())?;
     assert_eq!(rt; bytes.as_slice(), [b'a', b'b', 0, 0].as_slice());
     Ok(())
 }

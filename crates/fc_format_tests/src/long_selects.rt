@@ -31,21 +31,33 @@ fn on_path(alloc: Global, kind: OperKind, path: PathData) -> Result<Oper, Memory
     Ok(Oper::Paths(kind, paths))
 }
 
-// A SET of so many bytes at a place of so many steps.
-fn wide(alloc: Global, steps: u32, size: u32) -> Result<Select, Memory> {
-    let path = PathData {
-        ids: rising(alloc, steps)?,
-        key: None,
-        body: Body::Full(ones(alloc, size)?),
-    };
-    let mut opers = List::new(alloc);
-    opers.push(on_path(alloc, OperKind::Set, path)?)?;
-    opers.push(Oper::Trcomp)?;
-    Ok(Select {
+// The select of instance 1 of class 1 with these operations.
+fn first_lfb(opers: List<Oper>) -> Select {
+    Select {
         class: 1,
         instance: 1,
         opers,
+    }
+}
+
+// A PATH-DATA to so many steps, with so many bytes.
+fn long_path(alloc: Global, steps: u32, size: u32) -> Result<PathData, Memory> {
+    let ids = rising(alloc, steps)?;
+    let body = Body::Full(ones(alloc, size)?);
+    Ok(PathData {
+        ids,
+        key: None,
+        body,
     })
+}
+
+// A SET of so many bytes at a place of so many steps.
+fn wide(alloc: Global, steps: u32, size: u32) -> Result<Select, Memory> {
+    let set = on_path(alloc, OperKind::Set, long_path(alloc, steps, size)?)?;
+    let mut opers = List::new(alloc);
+    opers.push(set)?;
+    opers.push(Oper::Trcomp)?;
+    Ok(first_lfb(opers))
 }
 
 // A GET by a key of so many bytes.
@@ -56,13 +68,10 @@ fn by_key(alloc: Global, size: u32) -> Result<Select, Memory> {
         key: Some(Key { ident: 1, value }),
         body: Body::Nothing,
     };
+    let get = on_path(alloc, OperKind::Get, path)?;
     let mut opers = List::new(alloc);
-    opers.push(on_path(alloc, OperKind::Get, path)?)?;
-    Ok(Select {
-        class: 1,
-        instance: 1,
-        opers,
-    })
+    opers.push(get)?;
+    Ok(first_lfb(opers))
 }
 
 // Whether a select is read again, in a message of a type, of what is written of it.
@@ -78,11 +87,18 @@ fn is_read_again(alloc: Global, message: u8, select: &Select) -> bool {
 }
 
 #[test]
-fn the_greatest_selects_are_read_again(rt: HostRuntime) -> Result<(), Fail> {
-    let alloc = rt.alloc();
-    assert!(rt; is_read_again(alloc, 3, &wide(alloc, 16_300, 0)?));
-    assert!(rt; is_read_again(alloc, 3, &wide(alloc, 1, 65_400)?));
-    assert!(rt; is_read_again(alloc, 4, &by_key(alloc, 65_400)?));
+fn the_greatest_sets_are_read_again(rt: HostRuntime) -> Result<(), Fail> {
+    for (steps, size) in [(16_300, 0), (1, 65_400)] {
+        let select = wide(rt.alloc(), steps, size)?;
+        assert!(rt; is_read_again(rt.alloc(), 3, &select), "{steps}");
+    }
+    Ok(())
+}
+
+#[test]
+fn the_greatest_keys_are_read_again(rt: HostRuntime) -> Result<(), Fail> {
+    let select = by_key(rt.alloc(), 65_400)?;
+    assert!(rt; is_read_again(rt.alloc(), 4, &select));
     Ok(())
 }
 
@@ -111,21 +127,29 @@ fn results_fit_up_to_the_last_byte(rt: HostRuntime) -> Result<(), Fail> {
     Ok(())
 }
 
+// What is written behind four bytes of a SET of so many, and the answer.
+fn written(alloc: Global, size: u32) -> Result<(Vec<u8>, Result<(), WriteFault>), Memory> {
+    let select = wide(alloc, 1, size)?;
+    let mut writer = TlvWriter::new(alloc);
+    writer.put(&[1, 2, 3, 4])?;
+    let answer = select.write(&mut writer);
+    Ok((writer.finish(), answer))
+}
+
+#[test]
+fn the_longest_select_fits_its_length_field(rt: HostRuntime) -> Result<(), Fail> {
+    let (bytes, answer) = written(rt.alloc(), 65_496)?;
+    assert!(rt; answer.is_ok());
+    assert_eq!(rt; bytes.len(), 65536);
+    Ok(())
+}
+
 #[test]
 fn lengths_pass_no_field(rt: HostRuntime) -> Result<(), Fail> {
-    let alloc = rt.alloc();
-    for (size, fits) in [(65496, true), (65497, false), (65531, false)] {
-        let mut writer = TlvWriter::new(alloc);
-        writer.put(&[1, 2, 3, 4])?;
-        let answer = wide(alloc, 1, size)?.write(&mut writer);
-        let bytes = writer.finish();
-        if fits {
-            assert!(rt; answer.is_ok());
-            assert_eq!(rt; bytes.len(), 65536);
-        } else {
-            assert!(rt; answer == Err(WriteFault::TooLong));
-            assert_eq!(rt; bytes.as_slice(), [1, 2, 3, 4].as_slice());
-        }
+    for size in [65_497, 65_531] {
+        let (bytes, answer) = written(rt.alloc(), size)?;
+        assert!(rt; answer == Err(WriteFault::TooLong), "{size}");
+        assert_eq!(rt; bytes.as_slice(), [1, 2, 3, 4].as_slice(), "{size}");
     }
     Ok(())
 }

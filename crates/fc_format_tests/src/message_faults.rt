@@ -1,6 +1,6 @@
 // Bytes that spell no message: the first rule that they break, and its place.
 use crate::digits::{bytes_of, counted, numbered, push_digits};
-use fc_msg::{MsgFault, Reason, Refusal, decode};
+use fc_msg::{MsgFault, Reason, decode};
 use std::alloc::{AllocError, Global};
 use std::test::Fail;
 
@@ -58,31 +58,38 @@ fn message_of(alloc: Global, kind: u8, words: usize, digits: &str) -> Result<Vec
     Ok(framed(alloc, kind, words, digits)?)
 }
 
+// A row: the bytes, and the place and the name of the rule that they break.
+fn parts<'a>(alloc: Global, row: &'a str) -> Result<(Vec<u8>, usize, &'a str), Fail> {
+    let (kind, rest) = numbered(row)?;
+    let (words, rest) = counted(rest)?;
+    let (place, rest) = counted(rest)?;
+    let (rule, digits) = rest.split_once(":").ok_or("a rule")?;
+    Ok((message_of(alloc, kind, words, digits)?, place, rule))
+}
+
 #[test]
 fn the_first_broken_rule_is_told(rt: HostRuntime) -> Result<(), Fail> {
-    let alloc = rt.alloc();
     for row in FAULTS.lines() {
-        let (kind, rest) = numbered(row)?;
-        let (words, rest) = counted(rest)?;
-        let (place, rest) = counted(rest)?;
-        let (rule, digits) = rest.split_once(":").ok_or("a rule")?;
-        let bytes = message_of(alloc, kind, words, digits)?;
-        assert!(rt; fault_of(alloc, &bytes)? == (place, rule), "{row}");
+        let (bytes, place, rule) = parts(rt.alloc(), row)?;
+        assert!(rt; fault_of(rt.alloc(), &bytes)? == (place, rule), "{row}");
     }
     Ok(())
 }
 
 #[test]
-fn headers_and_names_of_reasons(rt: HostRuntime) -> Result<(), Fail> {
-    let alloc = rt.alloc();
-    let short = Refusal::at(0, Reason::Truncated);
-    assert_eq!(rt; decode(alloc, &[0x20, 0x0f]), Err(MsgFault::At(short)));
+fn headers_are_refused(rt: HostRuntime) -> Result<(), Fail> {
+    let truncated = fault_of(rt.alloc(), &[0x20, 0x0f])?;
+    assert!(rt; truncated == (0, Reason::Truncated.name()));
     let version = bytes_of(
-        alloc,
+        rt.alloc(),
         "200F0005 00000000 00000000 00000000 00000000 00000000",
     )?;
-    let fault = Refusal::at(0, Reason::Version);
-    assert_eq!(rt; decode(alloc, version.as_slice()), Err(MsgFault::At(fault)));
+    assert!(rt; fault_of(rt.alloc(), &version)? == (0, Reason::Version.name()));
+    Ok(())
+}
+
+#[test]
+fn reasons_have_names(rt: HostRuntime) -> Result<(), Fail> {
     assert_eq!(rt; Reason::KeyFlag.name(), "key-flag");
     Ok(())
 }

@@ -52,34 +52,58 @@ fn decoded(alloc: Global, bytes: &[u8]) -> Result<Message, Fail> {
     Ok(decode(alloc, bytes).ok().ok_or("a message")?)
 }
 
+// The bytes of a message.
+fn encoded(alloc: Global, message: &Message) -> Result<Vec<u8>, Fail> {
+    let mut out = Vec::new(alloc);
+    encode(message, &mut out).ok().ok_or("bytes")?;
+    Ok(out)
+}
+
 #[test]
 fn canonical_messages_are_decoded_and_encoded_again(rt: HostRuntime) -> Result<(), Fail> {
-    let alloc = rt.alloc();
     for digits in SAMPLES.lines() {
-        let bytes = bytes_of(alloc, digits)?;
-        let message = decoded(alloc, bytes.as_slice())?;
-        assert_eq!(rt; message.copy()?, message);
-        let mut out = Vec::new(alloc);
-        assert_eq!(rt; encode(&message, &mut out), Ok(()));
-        assert_eq!(rt; out.as_slice(), bytes.as_slice(), "{digits}");
+        let bytes = bytes_of(rt.alloc(), digits)?;
+        let message = decoded(rt.alloc(), &bytes)?;
+        let out = encoded(rt.alloc(), &message)?;
+        assert_eq!(rt; out, bytes, "{digits}");
     }
     Ok(())
 }
 
 #[test]
-fn bodies_are_what_the_bytes_say(rt: HostRuntime) -> Result<(), Fail> {
-    let alloc = rt.alloc();
+fn canonical_messages_are_copied(rt: HostRuntime) -> Result<(), Fail> {
+    for digits in SAMPLES.lines() {
+        let bytes = bytes_of(rt.alloc(), digits)?;
+        let message = decoded(rt.alloc(), &bytes)?;
+        assert_eq!(rt; message.copy()?, message);
+    }
+    Ok(())
+}
+
+// The message of the sample at a place.
+fn sampled(alloc: Global, at: usize) -> Result<Message, Fail> {
+    let bytes = sample(alloc, at)?;
+    decoded(alloc, &bytes)
+}
+
+#[test]
+fn a_setup_is_what_its_bytes_say(rt: HostRuntime) -> Result<(), Fail> {
     let wanted = Message {
         source: 1,
         dest: 0xffff_fffd,
         corr: 0,
         flags: Flags { ack: 3, ..QUIET },
-        body: MsgBody::Setup(List::new(alloc)),
+        body: MsgBody::Setup(List::new(rt.alloc())),
     };
-    assert_eq!(rt; decoded(alloc, &sample(alloc, 1)?)?, wanted);
-    let response = decoded(alloc, &sample(alloc, 2)?)?;
+    assert_eq!(rt; sampled(rt.alloc(), 1)?, wanted);
+    Ok(())
+}
+
+#[test]
+fn bodies_are_what_the_bytes_say(rt: HostRuntime) -> Result<(), Fail> {
+    let response = sampled(rt.alloc(), 2)?;
     assert_eq!(rt; response, message(MsgBody::SetupResponse(2)));
-    let teardown = decoded(alloc, &sample(alloc, 3)?)?;
+    let teardown = sampled(rt.alloc(), 3)?;
     assert_eq!(rt; teardown, message(MsgBody::Teardown(255)));
     Ok(())
 }
@@ -90,10 +114,9 @@ const UNPADDED: &str =
 
 #[test]
 fn padding_is_free_and_may_lack_in_the_lengths(rt: HostRuntime) -> Result<(), Fail> {
-    let alloc = rt.alloc();
-    let other = bytes_of(alloc, UNPADDED)?;
-    let canonical = decoded(alloc, &sample(alloc, 5)?)?;
-    assert_eq!(rt; decoded(alloc, &other)?, canonical);
+    let other = bytes_of(rt.alloc(), UNPADDED)?;
+    let other = decoded(rt.alloc(), &other)?;
+    assert_eq!(rt; other, sampled(rt.alloc(), 5)?);
     Ok(())
 }
 
@@ -139,17 +162,28 @@ fn lengthen(message: &mut Message) -> Result<(), Fail> {
 }
 
 #[test]
-fn the_longest_message_is_taken_and_a_longer_one_refused(rt: HostRuntime) -> Result<(), Fail> {
-    let alloc = rt.alloc();
-    let bytes = longest(alloc)?;
+fn the_longest_message_is_taken(rt: HostRuntime) -> Result<(), Fail> {
+    let bytes = longest(rt.alloc())?;
     assert_eq!(rt; bytes.len(), 4 * 65535);
-    let mut message = decoded(alloc, bytes.as_slice())?;
-    let mut out = Vec::new(alloc);
-    assert_eq!(rt; encode(&message, &mut out), Ok(()));
-    assert!(rt; out.as_slice() == bytes.as_slice());
+    let message = decoded(rt.alloc(), &bytes)?;
+    assert!(rt; encoded(rt.alloc(), &message)? == bytes);
+    Ok(())
+}
+
+// The longest message with one select more.
+fn longer(alloc: Global) -> Result<Message, Fail> {
+    let bytes = longest(alloc)?;
+    let mut message = decoded(alloc, &bytes)?;
     lengthen(&mut message)?;
+    Ok(message)
+}
+
+#[test]
+fn a_message_longer_than_the_longest_is_refused(rt: HostRuntime) -> Result<(), Fail> {
+    let message = longer(rt.alloc())?;
+    let mut out = Vec::from_slice(rt.alloc(), b"as before")?;
     assert_eq!(rt; encode(&message, &mut out), Err(WriteFault::TooLong));
-    assert_eq!(rt; out.len(), bytes.len());
+    assert_eq!(rt; out.as_slice(), b"as before".as_slice());
     Ok(())
 }
 
@@ -187,8 +221,29 @@ fn too_long(alloc: Global) -> Result<Message, Memory> {
     Ok(message(MsgBody::Config(selects)))
 }
 
-// Whether an encoder appends a sample to bytes, and then nothing of a message that is too long.
+// Whether an encoder appends a message to bytes, whose own bytes are these.
 fn appends(
+    encoder: &mut Encoder,
+    out: &mut Vec<u8>,
+    message: &Message,
+    bytes: &[u8],
+) -> Result<bool, Memory> {
+    let mut wanted = out.clone()?;
+    wanted.extend_from_slice(bytes)?;
+    let done = encoder.encode(message, out);
+    Ok(done == Ok(()) && *out == wanted)
+}
+
+// Whether an encoder appends nothing of a message that is too long.
+fn refuses(alloc: Global, encoder: &mut Encoder, out: &mut Vec<u8>) -> Result<bool, Memory> {
+    let message = too_long(alloc)?;
+    let before = out.clone()?;
+    let done = encoder.encode(&message, out);
+    Ok(done == Err(WriteFault::TooLong) && *out == before)
+}
+
+// Whether an encoder appends the sample at a place to bytes, and then nothing of a message that is too long.
+fn appends_sample(
     alloc: Global,
     encoder: &mut Encoder,
     out: &mut Vec<u8>,
@@ -196,21 +251,17 @@ fn appends(
 ) -> Result<bool, Fail> {
     let bytes = sample(alloc, at)?;
     let message = decoded(alloc, &bytes)?;
-    let mut wanted = out.clone()?;
-    wanted.extend_from_slice(&bytes)?;
-    let done = encoder.encode(&message, out);
-    let is_appended = done == Ok(()) && *out == wanted;
-    let refused = encoder.encode(&too_long(alloc)?, out);
-    Ok(is_appended && refused == Err(WriteFault::TooLong) && *out == wanted)
+    let is_appended = appends(encoder, out, &message, &bytes)?;
+    Ok(is_appended && refuses(alloc, encoder, out)?)
 }
 
 #[test]
 fn an_encoder_forgets_what_it_encoded_before(rt: HostRuntime) -> Result<(), Fail> {
-    let alloc = rt.alloc();
-    let mut encoder = Encoder::new(alloc);
-    let mut out = Vec::new(alloc);
+    let mut encoder = Encoder::new(rt.alloc());
+    let mut out = Vec::new(rt.alloc());
     for at in [8usize, 2, 0, 5] {
-        assert!(rt; appends(alloc, &mut encoder, &mut out, at)?, "{at}");
+        let done = appends_sample(rt.alloc(), &mut encoder, &mut out, at)?;
+        assert!(rt; done, "{at}");
     }
     Ok(())
 }

@@ -46,19 +46,29 @@ const SELECTS: &str = "\
 13 10000024 00001001 00000001 00060018 01100014 00000001 00000001 01140008 10000000
 14 10000038 00001001 00000001 000A002C 01100028 00000001 00000001 0113001C 00000001 00000009 FF000000 00000002 0000000B AABBCC00";
 
+// The select of digits in a message of a type.
+fn select_of(alloc: Global, message: u8, digits: &str) -> Result<Select, Fail> {
+    let bytes = bytes_of(alloc, digits)?;
+    Ok(read_select(alloc, message, &bytes).ok().ok_or("a select")?)
+}
+
 #[test]
 fn selects_are_read_and_written(rt: HostRuntime) -> Result<(), Fail> {
-    let alloc = rt.alloc();
     for row in SELECTS.lines() {
         let (message, digits) = numbered(row)?;
-        let bytes = bytes_of(alloc, digits)?;
-        let select = read_select(alloc, message, &bytes).ok().ok_or("a select")?;
+        let bytes = bytes_of(rt.alloc(), digits)?;
+        let select = select_of(rt.alloc(), message, digits)?;
+        assert_eq!(rt; written(rt.alloc(), &select), bytes, "{row}");
+    }
+    Ok(())
+}
+
+#[test]
+fn selects_are_copied(rt: HostRuntime) -> Result<(), Fail> {
+    for row in SELECTS.lines() {
+        let (message, digits) = numbered(row)?;
+        let select = select_of(rt.alloc(), message, digits)?;
         assert!(rt; select.copy()? == select, "{row}");
-        assert_eq!(rt;
-            written(alloc, &select).as_slice(),
-            bytes.as_slice(),
-            "{row}"
-        );
     }
     Ok(())
 }
@@ -73,13 +83,11 @@ const SPELLINGS: &str = "\
 
 #[test]
 fn free_bits_and_padding_are_read(rt: HostRuntime) -> Result<(), Fail> {
-    let alloc = rt.alloc();
     for row in SPELLINGS.lines() {
         let (message, digits) = numbered(row)?;
         let (one, other) = digits.split_once(" = ").ok_or("a pair")?;
-        let first = read_select(alloc, message, &bytes_of(alloc, one)?);
-        let second = read_select(alloc, message, &bytes_of(alloc, other)?);
-        assert!(rt; first.is_ok(), "{row}");
+        let first = select_of(rt.alloc(), message, one)?;
+        let second = select_of(rt.alloc(), message, other)?;
         assert!(rt; first == second, "{row}");
     }
     Ok(())
@@ -96,8 +104,7 @@ fn steps_of(alloc: Global, ids: &[u32]) -> Result<List<Step>, Memory> {
 
 // The leaves of the select of digits.
 fn leaves_of(alloc: Global, message: u8, digits: &str) -> Result<List<Leaf>, Fail> {
-    let bytes = bytes_of(alloc, digits)?;
-    let select = read_select(alloc, message, &bytes).ok().ok_or("a select")?;
+    let select = select_of(alloc, message, digits)?;
     Ok(select.leaves()?)
 }
 
@@ -130,16 +137,28 @@ fn leaves_have_the_steps_of_all_that_they_stand_in(rt: HostRuntime) -> Result<()
     Ok(())
 }
 
+// The component 4, and the entry of the key 1 that is this name.
+fn keyed_steps(alloc: Global, name: &[u8]) -> Result<List<Step>, Memory> {
+    let value = Octets::from_slice(alloc, name)?;
+    let mut steps = steps_of(alloc, &[4])?;
+    steps.push(Step::Key(1, value))?;
+    Ok(steps)
+}
+
+// Whether the copy of a leaf is a DEL with these steps.
+fn is_deletion(leaf: &Leaf, steps: &List<Step>) -> Result<bool, Memory> {
+    let leaf = leaf.copy()?;
+    let kind = leaf.kind.copy()?;
+    Ok(kind == OperKind::Del && leaf.spot.steps == *steps)
+}
+
 #[test]
 fn a_leaf_is_found_by_its_key(rt: HostRuntime) -> Result<(), Fail> {
-    let alloc = rt.alloc();
-    let leaves = leaves_of(alloc, 3, KEYED)?;
-    let mut steps = steps_of(alloc, &[4])?;
-    steps.push(Step::Key(1, Octets::from_slice(alloc, b"eth0")?))?;
+    let leaves = leaves_of(rt.alloc(), 3, KEYED)?;
     assert_eq!(rt; leaves.len(), 1);
+    let steps = keyed_steps(rt.alloc(), b"eth0")?;
     for leaf in leaves.as_slice() {
-        let leaf = leaf.copy()?;
-        assert!(rt; leaf.kind.copy()? == OperKind::Del && leaf.spot.steps == steps);
+        assert!(rt; is_deletion(leaf, &steps)?);
     }
     Ok(())
 }

@@ -43,16 +43,25 @@ fn messages_of(alloc: Global, short: &str) -> Result<List<Message>, Fail> {
     Ok(read_text(alloc, text.as_slice()).ok().ok_or("a text")?)
 }
 
+// Whether two texts are read as the same messages, of which there is one at least.
+fn are_alike(alloc: Global, one: &str, other: &str) -> Result<bool, Fail> {
+    let one = messages_of(alloc, one)?;
+    let other = messages_of(alloc, other)?;
+    Ok(!one.is_empty() && one == other)
+}
+
 #[test]
 fn equal_texts_are_read_alike(rt: HostRuntime) -> Result<(), Fail> {
-    let alloc = rt.alloc();
     for row in ALIKE.lines() {
         let (one, other) = row.split_once(" = ").ok_or("a pair")?;
-        let one = messages_of(alloc, one)?;
-        assert!(rt; !one.is_empty(), "{row}");
-        assert!(rt; one == messages_of(alloc, other)?, "{row}");
+        assert!(rt; are_alike(rt.alloc(), one, other)?, "{row}");
     }
-    assert!(rt; messages_of(alloc, "")?.is_empty());
+    Ok(())
+}
+
+#[test]
+fn an_empty_text_is_read_as_no_message(rt: HostRuntime) -> Result<(), Fail> {
+    assert!(rt; messages_of(rt.alloc(), "")?.is_empty());
     Ok(())
 }
 
@@ -178,15 +187,18 @@ fn fault_of(alloc: Global, text: &[u8]) -> Option<TextFault> {
     read_text(alloc, text).err()
 }
 
+// The text of a row, and the place at which it is to be refused.
+fn placed(alloc: Global, row: &str) -> Result<(Vec<u8>, TextFault), Fail> {
+    let (line, rest) = counted(row)?;
+    let (column, short) = counted(rest)?;
+    Ok((text_of(alloc, short)?, TextFault::At { line, column }))
+}
+
 #[test]
 fn a_text_is_refused_at_its_first_word_that_does_not_fit(rt: HostRuntime) -> Result<(), Fail> {
-    let alloc = rt.alloc();
     for row in REFUSED.lines() {
-        let (line, rest) = counted(row)?;
-        let (column, short) = counted(rest)?;
-        let text = text_of(alloc, short)?;
-        let fault = fault_of(alloc, &text);
-        assert_eq!(rt; fault, Some(TextFault::At { line, column }), "{row}");
+        let (text, wanted) = placed(rt.alloc(), row)?;
+        assert_eq!(rt; fault_of(rt.alloc(), &text), Some(wanted), "{row}");
     }
     Ok(())
 }
@@ -214,24 +226,34 @@ fn nested(alloc: Global, operation: &str, depth: usize, body: &str) -> Result<Ve
     Ok(text)
 }
 
+const SET: &str = "Config@  lfb 00000001 00000001/    SET/";
+
+const DEL: &str = "Config@  lfb 00000001 00000001/    DEL/";
+
 #[test]
 fn paths_nest_sixteen_deep(rt: HostRuntime) -> Result<(), Fail> {
-    let alloc = rt.alloc();
-    let set = "Config@  lfb 00000001 00000001/    SET/";
-    let del = "Config@  lfb 00000001 00000001/    DEL/";
-    for (operation, depth, body) in [(set, 16, "full 00\n"), (del, 16, "")] {
-        let text = nested(alloc, operation, depth, body)?;
-        assert!(rt; fault_of(alloc, &text).is_none(), "{operation} {depth}");
+    for (operation, body) in [(SET, "full 00\n"), (DEL, "")] {
+        let text = nested(rt.alloc(), operation, 16, body)?;
+        assert!(rt; fault_of(rt.alloc(), &text).is_none(), "{operation}");
     }
+    Ok(())
+}
+
+#[test]
+fn paths_nest_no_deeper_than_sixteen(rt: HostRuntime) -> Result<(), Fail> {
     for (operation, depth, body, line, column) in [
-        (set, 17, "full 00\n", 20, 39),
-        (set, 16, "", 20, 1),
-        (del, 17, "", 20, 1),
-        (del, 16, "full 00\n", 20, 1),
+        (SET, 17, "full 00\n", 20, 39),
+        (SET, 16, "", 20, 1),
+        (DEL, 17, "", 20, 1),
+        (DEL, 16, "full 00\n", 20, 1),
     ] {
-        let text = nested(alloc, operation, depth, body)?;
+        let text = nested(rt.alloc(), operation, depth, body)?;
         let wanted = TextFault::At { line, column };
-        assert_eq!(rt; fault_of(alloc, &text), Some(wanted), "{operation} {depth}");
+        assert_eq!(rt;
+            fault_of(rt.alloc(), &text),
+            Some(wanted),
+            "{operation} {depth}"
+        );
     }
     Ok(())
 }
@@ -250,15 +272,12 @@ fn with_value(alloc: Global, count: u32) -> Result<Vec<u8>, AllocError> {
 
 #[test]
 fn a_message_too_long_is_refused_at_its_first_line(rt: HostRuntime) -> Result<(), Fail> {
-    let alloc = rt.alloc();
-    let longest = with_value(alloc, 65500)?;
-    assert_eq!(rt; fault_of(alloc, &longest), None);
-    let longer = with_value(alloc, 65501)?;
     let (line, column) = (2, 1);
-    assert_eq!(rt;
-        fault_of(alloc, &longer),
-        Some(TextFault::At { line, column })
-    );
+    let wanted = Some(TextFault::At { line, column });
+    for (count, wanted) in [(65500, None), (65501, wanted)] {
+        let text = with_value(rt.alloc(), count)?;
+        assert_eq!(rt; fault_of(rt.alloc(), &text), wanted, "{count}");
+    }
     Ok(())
 }
 
@@ -284,13 +303,10 @@ const NO_BODIES: &str = "\
 
 #[test]
 fn a_body_is_refused_at_its_first_word_that_does_not_fit(rt: HostRuntime) -> Result<(), Fail> {
-    let alloc = rt.alloc();
     for row in NO_BODIES.lines() {
-        let (line, rest) = counted(row)?;
-        let (column, short) = counted(rest)?;
-        let text = text_of(alloc, short)?;
-        let fault = read_body(alloc, text.as_slice()).err();
-        assert_eq!(rt; fault, Some(TextFault::At { line, column }), "{row}");
+        let (text, wanted) = placed(rt.alloc(), row)?;
+        let fault = read_body(rt.alloc(), &text).err();
+        assert_eq!(rt; fault, Some(wanted), "{row}");
     }
     Ok(())
 }

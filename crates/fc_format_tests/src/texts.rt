@@ -112,78 +112,132 @@ fn show_frame(alloc: Global, bytes: &[u8], text: &mut Vec<u8>) -> Result<(), Fai
     Ok(show_bytes(alloc, bytes, text).ok().ok_or("a text")?)
 }
 
+// The text of a message.
+fn shown(alloc: Global, message: &Message) -> Result<Vec<u8>, Fail> {
+    let mut text = Vec::new(alloc);
+    show_message(message, &mut text)?;
+    Ok(text)
+}
+
+// The text of the message of bytes.
+fn shown_bytes(alloc: Global, bytes: &[u8]) -> Result<Vec<u8>, Fail> {
+    let mut text = Vec::new(alloc);
+    show_frame(alloc, bytes, &mut text)?;
+    Ok(text)
+}
+
 #[test]
 fn each_kind_of_line_is_shown(rt: HostRuntime) -> Result<(), Fail> {
-    let alloc = rt.alloc();
     for sample in SAMPLES.split("\n\n") {
-        let (bytes, wanted) = parts(alloc, sample)?;
-        let message = decoded(alloc, &bytes)?;
-        let mut text = Vec::new(alloc);
-        show_message(&message, &mut text)?;
+        let (bytes, wanted) = parts(rt.alloc(), sample)?;
+        let message = decoded(rt.alloc(), &bytes)?;
+        let text = shown(rt.alloc(), &message)?;
         assert_eq!(rt; text.as_slice(), wanted.as_bytes(), "{sample}");
-        let mut appended = Vec::new(alloc);
-        show_frame(alloc, &bytes, &mut appended)?;
-        assert_eq!(rt; appended.as_slice(), wanted.as_bytes(), "{sample}");
     }
     Ok(())
 }
 
 #[test]
-fn texts_are_appended(rt: HostRuntime) -> Result<(), Fail> {
-    let alloc = rt.alloc();
+fn each_kind_of_line_is_shown_of_its_bytes(rt: HostRuntime) -> Result<(), Fail> {
     for sample in SAMPLES.split("\n\n") {
-        let (bytes, wanted) = parts(alloc, sample)?;
-        let message = decoded(alloc, &bytes)?;
-        let mut text = Vec::new(alloc);
-        show_message(&message, &mut text)?;
-        show_frame(alloc, &bytes, &mut text)?;
-        show_message(&message, &mut text)?;
-        let thrice = format!(in alloc; "{wanted}{wanted}{wanted}")?;
+        let (bytes, wanted) = parts(rt.alloc(), sample)?;
+        let text = shown_bytes(rt.alloc(), &bytes)?;
+        assert_eq!(rt; text.as_slice(), wanted.as_bytes(), "{sample}");
+    }
+    Ok(())
+}
+
+// The text of a message three times: of the message, of its bytes, and of the message.
+fn shown_thrice(alloc: Global, bytes: &[u8]) -> Result<Vec<u8>, Fail> {
+    let message = decoded(alloc, bytes)?;
+    let mut text = Vec::new(alloc);
+    show_message(&message, &mut text)?;
+    show_frame(alloc, bytes, &mut text)?;
+    show_message(&message, &mut text)?;
+    Ok(text)
+}
+
+#[test]
+fn texts_are_appended(rt: HostRuntime) -> Result<(), Fail> {
+    for sample in SAMPLES.split("\n\n") {
+        let (bytes, wanted) = parts(rt.alloc(), sample)?;
+        let text = shown_thrice(rt.alloc(), &bytes)?;
+        let thrice = format!(in rt.alloc(); "{wanted}{wanted}{wanted}")?;
         assert_eq!(rt; text.as_slice(), thrice.as_bytes(), "{sample}");
     }
     Ok(())
 }
 
+// Whether a text is read as one message, that of the bytes.
+fn is_read(alloc: Global, bytes: &[u8], text: &str) -> Result<bool, Fail> {
+    let message = decoded(alloc, bytes)?;
+    let again = read_text(alloc, text.as_bytes()).ok().ok_or("a text")?;
+    match again.as_slice() {
+        [one] => Ok(*one == message),
+        _ => Ok(false),
+    }
+}
+
 #[test]
 fn a_shown_message_is_read_again(rt: HostRuntime) -> Result<(), Fail> {
-    let alloc = rt.alloc();
     for sample in SAMPLES.split("\n\n") {
-        let (bytes, text) = parts(alloc, sample)?;
-        let message = decoded(alloc, &bytes)?;
-        let again = read_text(alloc, text.as_bytes()).ok().ok_or("a text")?;
-        assert_eq!(rt; again.len(), 1, "{sample}");
-        assert!(rt; again.get(0) == Some(&message), "{sample}");
-        let mut made = Vec::new(alloc);
-        assert_eq!(rt; encode(&message, &mut made), Ok(()));
-        assert_eq!(rt; made.as_slice(), bytes.as_slice(), "{sample}");
+        let (bytes, text) = parts(rt.alloc(), sample)?;
+        assert!(rt; is_read(rt.alloc(), &bytes, &text)?, "{sample}");
     }
     Ok(())
 }
 
-// The text of two samples one after the other, and their bytes behind a 7.
-fn two_samples(alloc: Global) -> Result<(Vec<u8>, Vec<u8>), Fail> {
-    let (first, text) = sample(alloc, 7)?;
-    let (second, more) = sample(alloc, 0)?;
-    let text = format!(in alloc; "{text}{more}")?;
-    let mut bytes = Vec::new(alloc);
-    bytes.push(7)?;
+// The bytes of the message of bytes.
+fn encoded_again(alloc: Global, bytes: &[u8]) -> Result<Vec<u8>, Fail> {
+    let message = decoded(alloc, bytes)?;
+    let mut made = Vec::new(alloc);
+    encode(&message, &mut made).ok().ok_or("bytes")?;
+    Ok(made)
+}
+
+#[test]
+fn a_shown_message_has_its_bytes_again(rt: HostRuntime) -> Result<(), Fail> {
+    for sample in SAMPLES.split("\n\n") {
+        let (bytes, _) = parts(rt.alloc(), sample)?;
+        assert_eq!(rt; encoded_again(rt.alloc(), &bytes)?, bytes, "{sample}");
+    }
+    Ok(())
+}
+
+// The text of two samples one after the other.
+fn two_texts(alloc: Global) -> Result<Vec<u8>, Fail> {
+    let (_, text) = sample(alloc, 7)?;
+    let (_, more) = sample(alloc, 0)?;
+    Ok(format!(in alloc; "{text}{more}")?.into_bytes())
+}
+
+// Their bytes, behind a 7.
+fn two_samples(alloc: Global) -> Result<Vec<u8>, Fail> {
+    let (first, _) = sample(alloc, 7)?;
+    let (second, _) = sample(alloc, 0)?;
+    let mut bytes = Vec::from_slice(alloc, &[7])?;
     bytes.extend_from_slice(&first)?;
     bytes.extend_from_slice(&second)?;
-    Ok((text.into_bytes(), bytes))
+    Ok(bytes)
+}
+
+#[test]
+fn bytes_are_made_of_a_whole_text(rt: HostRuntime) -> Result<(), Fail> {
+    let text = two_texts(rt.alloc())?;
+    let mut made = Vec::from_slice(rt.alloc(), &[7])?;
+    assert_eq!(rt; make_bytes(rt.alloc(), &text, &mut made), Ok(()));
+    assert_eq!(rt; made, two_samples(rt.alloc())?);
+    Ok(())
 }
 
 #[test]
 fn bytes_are_made_of_a_whole_text_or_not_at_all(rt: HostRuntime) -> Result<(), Fail> {
-    let alloc = rt.alloc();
-    let (mut text, wanted) = two_samples(alloc)?;
-    let mut made = Vec::new(alloc);
-    made.push(7)?;
-    assert_eq!(rt; make_bytes(alloc, text.as_slice(), &mut made), Ok(()));
-    assert_eq!(rt; made.as_slice(), wanted.as_slice());
+    let mut text = two_texts(rt.alloc())?;
     text.extend_from_slice(b"Heartbeat")?;
-    let fault = make_bytes(alloc, text.as_slice(), &mut made).err();
+    let mut made = Vec::from_slice(rt.alloc(), b"before")?;
+    let fault = make_bytes(rt.alloc(), &text, &mut made).err();
     let (line, column) = (9, 10);
     assert_eq!(rt; fault, Some(TextFault::At { line, column }));
-    assert_eq!(rt; made.as_slice(), wanted.as_slice());
+    assert_eq!(rt; made.as_slice(), b"before".as_slice());
     Ok(())
 }
