@@ -5,7 +5,6 @@ ghost use Rattle.fc_abiding.specs.Abiding.{IsNamed};
 ghost use Rattle.fc_abiding.specs.Runs.{Came, life_of};
 ghost use Rattle.fc_answering.specs.Answering.{AreSame, Goes, IsHeardWhole};
 ghost use Rattle.fc_answering.specs.Mastership.{HasMastership};
-ghost use Rattle.fc_blocks.specs.Opening.{opened_store};
 ghost use Rattle.fc_element.specs.declared.input.ElIn.{ElIn};
 ghost use Rattle.fc_lives.specs.Lives.{life_after};
 ghost use Rattle.fc_msg.specs.declared.message.Message.{Message as Messages};
@@ -26,9 +25,9 @@ pub fn configs_go_by_the_protocol()
         → (c : Circumstance) × (h : Heard) × Goes s before peer m selects c h }
 {}
 
-/// The store of each new element has class Mastership so.
-pub fn new_elements_have_mastership()
-    ensures { (library : List Classes) (instances : List (ℕ × ℕ)) → list_all is_own library ≡ true → HasMastership (opened_store library instances) }
+/// The store of an element has class Mastership so, after any inputs from any peers.
+pub fn elements_have_mastership()
+    ensures { (id ce : ℕ) (library : List Classes) (instances : List (ℕ × ℕ)) (is : List ElIn) → list_all is_own library ≡ true → HasMastership (life_after id ce library instances is).state.ledger.store }
 {}
 
 /// So a new element that some Configs came to is an element of the protocol that has heard some requests, and keeps the same reply.

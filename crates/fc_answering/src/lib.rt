@@ -5,6 +5,6 @@
 mod laws;
 
 pub use laws::{
-    configs_go_by_the_protocol, elements_keep_the_reply, lives_keep_the_reply,
-    new_elements_have_mastership,
+    configs_go_by_the_protocol, elements_have_mastership, elements_keep_the_reply,
+    lives_keep_the_reply,
 };
