@@ -46,13 +46,20 @@ fn means(alloc: Global, line: &str, numbers: [u32; 4], address: &str) -> Result<
 }
 
 #[test]
+fn two_commands_are_a_word_each(rt: HostRuntime) -> Result<(), Fail> {
+    assert!(rt; matches!(meant(rt.alloc(), "show")?, Some(Command::Show)));
+    assert!(rt; matches!(meant(rt.alloc(), "make")?, Some(Command::Make)));
+    Ok(())
+}
+
+#[test]
 fn commands_have_their_values(rt: HostRuntime) -> Result<(), Fail> {
-    let alloc = rt.alloc();
-    assert!(rt; matches!(meant(alloc, "show")?, Some(Command::Show)));
-    assert!(rt; matches!(meant(alloc, "make")?, Some(Command::Make)));
-    let line = "element 7 4000000A 127.0.0.1:6704 1 200";
-    assert!(rt; means(alloc, line, [7, 0x4000_000a, 1, 200], "127.0.0.1:6704")?);
     for (line, numbers, address) in [
+        (
+            "element 7 4000000A 127.0.0.1:6704 1 200",
+            [7, 0x4000_000a, 1, 200],
+            "127.0.0.1:6704",
+        ),
         ("element 1 40000001 a 2 3", [1, 0x4000_0001, 2, 3], "a"),
         ("element 1 4000000a a 2 3", [1, 0x4000_000a, 2, 3], "a"),
         (
@@ -61,7 +68,7 @@ fn commands_have_their_values(rt: HostRuntime) -> Result<(), Fail> {
             "=",
         ),
     ] {
-        assert!(rt; means(alloc, line, numbers, address)?, "{line}");
+        assert!(rt; means(rt.alloc(), line, numbers, address)?, "{line}");
     }
     Ok(())
 }
@@ -105,17 +112,16 @@ fn told(alloc: Global, line: &str) -> Result<String, Fail> {
 
 #[test]
 fn control_has_an_address_for_each_element(rt: HostRuntime) -> Result<(), Fail> {
-    let alloc = rt.alloc();
-    let one = told(alloc, "control 4000000a r 1 9 a")?;
-    assert_eq!(rt; one.as_str(), "4000000A r 1 9 a");
-    let many = told(
-        alloc,
-        "control 40000001 a/b 4294967295 4294967295 a:1 b:2 a:1 =",
-    )?;
-    assert_eq!(rt;
-        many.as_str(),
-        "40000001 a/b 4294967295 4294967295 a:1 b:2 a:1 ="
-    );
+    for (line, wanted) in [
+        ("control 4000000a r 1 9 a", "4000000A r 1 9 a"),
+        (
+            "control 40000001 a/b 4294967295 4294967295 a:1 b:2 a:1 =",
+            "40000001 a/b 4294967295 4294967295 a:1 b:2 a:1 =",
+        ),
+    ] {
+        let told = told(rt.alloc(), line)?;
+        assert_eq!(rt; told.as_str(), wanted);
+    }
     Ok(())
 }
 
@@ -177,12 +183,16 @@ CONTROL 40000001 r 1 9 a$";
 
 #[test]
 fn other_words_are_no_command(rt: HostRuntime) -> Result<(), Fail> {
-    let alloc = rt.alloc();
-    let none: [String; 0] = [];
-    assert!(rt; matches!(command(alloc, &none), Err(WordFault::NoCommand)));
     for row in NO_COMMANDS.lines() {
         let line = row.strip_suffix("$").ok_or("an end")?;
-        assert!(rt; meant(alloc, line)?.is_none(), "{row}");
+        assert!(rt; meant(rt.alloc(), line)?.is_none(), "{row}");
     }
+    Ok(())
+}
+
+#[test]
+fn no_words_are_no_command(rt: HostRuntime) -> Result<(), Fail> {
+    let none: [String; 0] = [];
+    assert!(rt; matches!(command(rt.alloc(), &none), Err(WordFault::NoCommand)));
     Ok(())
 }
