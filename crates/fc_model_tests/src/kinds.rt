@@ -67,14 +67,43 @@ pub(crate) fn port(alloc: Global) -> Result<Ty, Memory> {
     Ok(Ty::Struct { fields })
 }
 
+// A key of each of two fields, and one of both.
+fn three_keys(alloc: Global) -> Result<List<KeyDecl>, Memory> {
+    let rows: [(u32, &[u32]); 3] = [(1, &[1]), (2, &[2]), (3, &[2, 1])];
+    let mut keys = List::new(alloc);
+    for (id, fields) in rows {
+        keys.push(key(alloc, id, fields)?)?;
+    }
+    Ok(keys)
+}
+
+// A number and a text.
+fn numbered_text(alloc: Global) -> Result<Ty, Memory> {
+    let fields = two(alloc, number(1, false, 0, 255), Ty::String { length: 5 })?;
+    Ok(Ty::Struct { fields })
+}
+
 // At most four entries of a number and a text, with a key of each and one of both.
 pub(crate) fn keyed(alloc: Global) -> Result<Ty, Memory> {
-    let fields = two(alloc, number(1, false, 0, 255), Ty::String { length: 5 })?;
-    let mut keys = List::new(alloc);
-    keys.push(key(alloc, 1, &[1])?)?;
-    keys.push(key(alloc, 2, &[2])?)?;
-    keys.push(key(alloc, 3, &[2, 1])?)?;
-    array(alloc, 4, Ty::Struct { fields }, keys)
+    let keys = three_keys(alloc)?;
+    array(alloc, 4, numbered_text(alloc)?, keys)
+}
+
+// Such entries, and bytes.
+fn holder(alloc: Global) -> Result<Ty, Memory> {
+    let fields = two(alloc, keyed(alloc)?, Ty::Octets { length: 3 })?;
+    Ok(Ty::Struct { fields })
+}
+
+// Arrays in an array.
+fn nested(alloc: Global) -> Result<Ty, Memory> {
+    array(alloc, 2, words(alloc)?, List::new(alloc))
+}
+
+// A struct that ends with a text.
+fn ending(alloc: Global) -> Result<Ty, Memory> {
+    let fields = two(alloc, Ty::Bool, Ty::String { length: 5 })?;
+    Ok(Ty::Struct { fields })
 }
 
 #[derive(Clone, Copy, Debug)]
@@ -109,13 +138,9 @@ pub(crate) fn ty_of(alloc: Global, kind: Kind) -> Result<Ty, Memory> {
         Kind::Port => port(alloc),
         Kind::Words => words(alloc),
         Kind::Keyed => keyed(alloc),
-        Kind::Holder => Ok(Ty::Struct {
-            fields: two(alloc, keyed(alloc)?, Ty::Octets { length: 3 })?,
-        }),
-        Kind::Nested => array(alloc, 2, words(alloc)?, List::new(alloc)),
-        Kind::Ending => Ok(Ty::Struct {
-            fields: two(alloc, Ty::Bool, Ty::String { length: 5 })?,
-        }),
+        Kind::Holder => holder(alloc),
+        Kind::Nested => nested(alloc),
+        Kind::Ending => ending(alloc),
         Kind::Empty => Ok(Ty::Struct {
             fields: List::new(alloc),
         }),
@@ -131,8 +156,9 @@ pub(crate) fn raw(alloc: Global, digits: &str) -> Result<Value, Memory> {
 }
 
 pub(crate) fn port_value(alloc: Global, name: &str, rate: i128, up: bool) -> Result<Value, Memory> {
+    let name = text(alloc, name)?;
     let mut values = List::new(alloc);
-    values.push(text(alloc, name)?)?;
+    values.push(name)?;
     values.push(Value::Number(rate))?;
     values.push(Value::Truth(up))?;
     Ok(Value::Group(values))
@@ -160,10 +186,34 @@ pub(crate) fn two_words(alloc: Global, first: u32, second: u32) -> Result<Value,
     two_entries(alloc, (first, Value::Number(7)), (second, Value::Number(8)))
 }
 
+// A number and a text.
+fn numbered_text_value(alloc: Global, number: i128, word: &str) -> Result<Value, Memory> {
+    let word = text(alloc, word)?;
+    pair_value(alloc, Value::Number(number), word)
+}
+
 pub(crate) fn keyed_value(alloc: Global) -> Result<Value, Memory> {
-    let low = pair_value(alloc, Value::Number(5), text(alloc, "")?)?;
-    let high = pair_value(alloc, Value::Number(6), text(alloc, "abcd")?)?;
+    let low = numbered_text_value(alloc, 5, "")?;
+    let high = numbered_text_value(alloc, 6, "abcd")?;
     two_entries(alloc, (1, low), (0xFFFF_FFFF, high))
+}
+
+// Such entries, and no bytes.
+fn holder_value(alloc: Global) -> Result<Value, Memory> {
+    let keyed = keyed_value(alloc)?;
+    pair_value(alloc, keyed, raw(alloc, "")?)
+}
+
+// An array without entries, and one with two.
+fn nested_value(alloc: Global) -> Result<Value, Memory> {
+    let second = two_words(alloc, 3, 4)?;
+    two_entries(alloc, (1, Value::Table(List::new(alloc))), (2, second))
+}
+
+// A truth value and a text.
+fn ending_value(alloc: Global) -> Result<Value, Memory> {
+    let word = text(alloc, "a")?;
+    pair_value(alloc, Value::Truth(false), word)
 }
 
 pub(crate) fn value_of(alloc: Global, kind: Kind) -> Result<Value, Memory> {
@@ -177,13 +227,9 @@ pub(crate) fn value_of(alloc: Global, kind: Kind) -> Result<Value, Memory> {
         Kind::Port => port_value(alloc, "eth0", 100, true),
         Kind::Words => two_words(alloc, 0, 9),
         Kind::Keyed => keyed_value(alloc),
-        Kind::Holder => pair_value(alloc, keyed_value(alloc)?, raw(alloc, "")?),
-        Kind::Nested => two_entries(
-            alloc,
-            (1, Value::Table(List::new(alloc))),
-            (2, two_words(alloc, 3, 4)?),
-        ),
-        Kind::Ending => pair_value(alloc, Value::Truth(false), text(alloc, "a")?),
+        Kind::Holder => holder_value(alloc),
+        Kind::Nested => nested_value(alloc),
+        Kind::Ending => ending_value(alloc),
         Kind::Empty => Ok(Value::Group(List::new(alloc))),
     }
 }

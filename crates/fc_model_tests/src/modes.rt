@@ -1,7 +1,7 @@
 // The modes at worked lists of operations, and want of memory at each call.
 use EntryOp::{Create, Delete};
 use Mode::{AllOrNone, Continue, UntilFailure};
-use fc_base::{Code, Memory};
+use fc_base::{Code, List, Memory};
 use fc_modes::{CopyMark, CopyingMap, EntryOp, Mode, Runner, run_mode};
 use std::alloc::Global;
 use std::test::Fail;
@@ -31,9 +31,15 @@ fn are_keys(entries: &[(u32, u32)], keys: &[u32]) -> bool {
     entries.len() == keys.len() && entries.iter().zip(keys).all(|(entry, key)| entry.0 == *key)
 }
 
+// The codes of operations in a mode on a map with the entry 1, and the map after them.
+fn ran(alloc: Global, mode: Mode, ops: &[EntryOp]) -> Result<(List<Code>, CopyingMap), Fail> {
+    let mut map = one_entry(alloc)?;
+    let codes = run_mode(alloc, &mut map, mode, ops)?;
+    Ok((codes, map))
+}
+
 #[test]
 fn each_mode_gives_its_codes_and_state(rt: HostRuntime) -> Result<(), Fail> {
-    let alloc = rt.alloc();
     let none: &[EntryOp] = &[];
     let two: &[EntryOp] = &[Create(2, 2), Create(3, 3)];
     let first: &[EntryOp] = &[Delete(9), Create(2, 2), Create(3, 3)];
@@ -65,11 +71,12 @@ fn each_mode_gives_its_codes_and_state(rt: HostRuntime) -> Result<(), Fail> {
         (again, Continue, &[0, 0x0b], &[]),
     ];
     for (place, (ops, mode, codes, keys)) in rows.iter().enumerate() {
-        let mut map = one_entry(alloc)?;
-        let given = run_mode(alloc, &mut map, *mode, ops)?;
+        let (given, map) = ran(rt.alloc(), *mode, ops)?;
         assert!(rt; are_codes(given.as_slice(), codes), "codes of row {place}");
-        assert!(rt; are_keys(map.entries(), keys), "entries of row {place}");
-        assert_eq!(rt; map.marks(), 0, "row {place}");
+        assert!(rt;
+            are_keys(map.entries(), keys) && map.marks() == 0,
+            "state of row {place}"
+        );
     }
     Ok(())
 }
@@ -125,24 +132,38 @@ impl<R: Runner> Runner for Failing<R> {
     ghost refused = { R.refused };
 }
 
+// Whether operations in a mode want memory where the call with this number does; and the map after them, on which a mark
+// stood before.
+fn failed(
+    alloc: Global,
+    mode: Mode,
+    ops: &[EntryOp],
+    fails: u32,
+) -> Result<(bool, CopyingMap), Fail> {
+    let mut inner = one_entry(alloc)?;
+    let _outer: CopyMark = inner.mark()?;
+    let mut failing = Failing {
+        inner,
+        calls: 0,
+        fails,
+    };
+    let failed = run_mode(alloc, &mut failing, mode, ops).is_err();
+    let Failing { inner, .. } = failing;
+    Ok((failed, inner))
+}
+
 #[test]
 fn want_of_memory_leaves_the_state_and_the_marks(rt: HostRuntime) -> Result<(), Fail> {
-    let alloc = rt.alloc();
     let ops = [Create(2, 2), Delete(1), Create(3, 3)];
     for mode in [AllOrNone, UntilFailure, Continue] {
         for fails in 1..6u32 {
-            let mut inner = one_entry(alloc)?;
-            let _outer: CopyMark = inner.mark()?;
-            let mut failing = Failing {
-                inner,
-                calls: 0,
-                fails,
-            };
-            let failed = run_mode(alloc, &mut failing, mode, &ops).is_err();
+            let (failed, map) = failed(rt.alloc(), mode, &ops, fails)?;
             assert_eq!(rt; failed, fails <= 4, "call {fails}");
             let keys: &[u32] = if failed { &[1] } else { &[2, 3] };
-            assert!(rt; are_keys(failing.inner.entries(), keys), "call {fails}");
-            assert_eq!(rt; failing.inner.marks(), 1, "call {fails}");
+            assert!(rt;
+                are_keys(map.entries(), keys) && map.marks() == 1,
+                "call {fails}"
+            );
         }
     }
     Ok(())

@@ -15,10 +15,9 @@ fn ilv(alloc: Global, ident: u32, digits: &str) -> Result<Ilv, Memory> {
 
 fn ilvs(alloc: Global, first: (u32, &str), second: (u32, &str)) -> Result<Vec<Ilv>, Memory> {
     let mut ilvs = Vec::new(alloc);
-    let (ident, digits) = first;
-    ilvs.push(ilv(alloc, ident, digits)?)?;
-    let (ident, digits) = second;
-    ilvs.push(ilv(alloc, ident, digits)?)?;
+    for (ident, digits) in [first, second] {
+        ilvs.push(ilv(alloc, ident, digits)?)?;
+    }
     Ok(ilvs)
 }
 
@@ -55,9 +54,21 @@ fn parts_of_an_array(rt: HostRuntime) -> Result<(), Fail> {
     Ok(())
 }
 
+// Whether two parts of a value of a kind are refused by a code.
+fn are_refused(
+    alloc: Global,
+    kind: Kind,
+    first: (u32, &str),
+    second: (u32, &str),
+    code: Code,
+) -> Result<bool, Memory> {
+    let ty = ty_of(alloc, kind)?;
+    let given = ilvs(alloc, first, second)?;
+    Ok(read_sparse(alloc, &ty, &given) == Err(OpFault::Refused(code)))
+}
+
 #[test]
 fn codes_of_parts(rt: HostRuntime) -> Result<(), Fail> {
-    let alloc = rt.alloc();
     let rows: [(Kind, (u32, &str), (u32, &str), Code); 8] = [
         (
             Kind::Port,
@@ -84,14 +95,18 @@ fn codes_of_parts(rt: HostRuntime) -> Result<(), Fail> {
         (Kind::Text, (1, "61"), (2, "62"), Code::INVALID_TLV),
     ];
     for (kind, first, second, code) in rows {
-        let ty = ty_of(alloc, kind)?;
-        let given = ilvs(alloc, first, second)?;
         let (_, digits) = first;
         assert!(rt;
-            read_sparse(alloc, &ty, &given) == Err(OpFault::Refused(code)),
+            are_refused(rt.alloc(), kind, first, second, code)?,
             "{digits}"
         );
     }
-    assert!(rt; read_sparse(alloc, &Ty::Bool, &[]) == Err(OpFault::Refused(Code::INVALID_TLV)));
+    Ok(())
+}
+
+#[test]
+fn a_truth_value_has_no_parts(rt: HostRuntime) -> Result<(), Fail> {
+    let found = read_sparse(rt.alloc(), &Ty::Bool, &[]);
+    assert!(rt; found == Err(OpFault::Refused(Code::INVALID_TLV)));
     Ok(())
 }

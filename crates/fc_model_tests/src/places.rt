@@ -26,16 +26,20 @@ fn opens(alloc: Global, ty: &Ty, wanted: &Value) -> Result<bool, Memory> {
 }
 
 #[test]
-fn opening_values(rt: HostRuntime) -> Result<(), Fail> {
-    let alloc = rt.alloc();
+fn a_number_opens_with_the_one_nearest_to_zero(rt: HostRuntime) -> Result<(), Fail> {
     for (min, max, nearest) in [(0, 9, 0), (5, 9, 5), (-9, -5, -5), (-9, 9, 0)] {
         let ty = number(1, true, min, max);
-        assert!(rt; opens(alloc, &ty, &Value::Number(nearest))?, "{min}");
+        assert!(rt; opens(rt.alloc(), &ty, &Value::Number(nearest))?, "{min}");
     }
+    Ok(())
+}
+
+#[test]
+fn opening_values(rt: HostRuntime) -> Result<(), Fail> {
     for kind in [Kind::Port, Kind::Keyed, Kind::Bytes, Kind::Octets] {
-        let ty = ty_of(alloc, kind)?;
-        let wanted = opening(alloc, kind)?;
-        assert!(rt; opens(alloc, &ty, &wanted)?, "{kind:?}");
+        let ty = ty_of(rt.alloc(), kind)?;
+        let wanted = opening(rt.alloc(), kind)?;
+        assert!(rt; opens(rt.alloc(), &ty, &wanted)?, "{kind:?}");
     }
     Ok(())
 }
@@ -51,34 +55,49 @@ fn is_number(value: &Value, places: &[usize], number: i128) -> bool {
     node(value, places) == Some(&Value::Number(number))
 }
 
+// Whether the two entries hold these numbers.
+fn are_numbers(value: &Value, first: i128, second: i128) -> bool {
+    is_number(value, &[0, 0, 0], first) && is_number(value, &[0, 1, 0], second)
+}
+
 #[test]
-fn nodes_of_values(rt: HostRuntime) -> Result<(), Fail> {
+fn other_places_have_no_nodes(rt: HostRuntime) -> Result<(), Fail> {
     let mut value = value_of(rt.alloc(), Kind::Holder)?;
     let absent: [&[usize]; 4] = [&[2], &[0, 2], &[0, 0, 0, 0], &[1, 0]];
     for places in absent {
         assert!(rt; is_absent(&mut value, places));
     }
-    assert!(rt; is_number(&value, &[0, 0, 0], 5) && is_number(&value, &[0, 1, 0], 6));
-    let before = replace_node(&mut value, &[0, 1, 0], Value::Number(7)).ok();
-    assert!(rt; before == Some(Value::Number(6)));
-    assert!(rt; is_number(&value, &[0, 0, 0], 5) && is_number(&value, &[0, 1, 0], 7));
+    assert!(rt; are_numbers(&value, 5, 6));
     Ok(())
 }
 
 #[test]
-fn keys_of_entries(rt: HostRuntime) -> Result<(), Fail> {
-    let alloc = rt.alloc();
+fn nodes_of_values(rt: HostRuntime) -> Result<(), Fail> {
+    let mut value = value_of(rt.alloc(), Kind::Holder)?;
+    let before = replace_node(&mut value, &[0, 1, 0], Value::Number(7)).ok();
+    assert!(rt; before == Some(Value::Number(6)));
+    assert!(rt; are_numbers(&value, 5, 7));
+    Ok(())
+}
+
+// The value of the key of these fields in an entry of a number, 5, and a text.
+fn key_of(alloc: Global, ids: &[u32]) -> Result<Vec<u8>, Fail> {
     let fields = two(alloc, number(1, false, 0, 255), Ty::String { length: 5 })?;
     let entry = pair_value(alloc, Value::Number(5), text(alloc, "a")?)?;
+    let made = key(alloc, 1, ids)?;
+    Ok(key_value(alloc, fields.as_slice(), &made, &entry)?)
+}
+
+#[test]
+fn keys_of_entries(rt: HostRuntime) -> Result<(), Fail> {
     let rows: [(&[u32], &str); 3] = [
         (&[1], "05"),
         (&[2], "61"),
         (&[2, 1], "01120005 61000000 05"),
     ];
     for (ids, digits) in rows {
-        let made = key(alloc, 1, ids)?;
-        let bytes = key_value(alloc, fields.as_slice(), &made, &entry)?;
-        assert_eq!(rt; bytes, bytes_of(alloc, digits)?);
+        let wanted = bytes_of(rt.alloc(), digits)?;
+        assert_eq!(rt; key_of(rt.alloc(), ids)?, wanted);
     }
     Ok(())
 }

@@ -46,6 +46,11 @@ fn ports_in_order(rt: HostRuntime) -> Result<(), Fail> {
     assert!(rt; instances.pairs() == pairs.as_slice());
     assert!(rt; are_ids(library.classes(), &[0x1001]));
     assert!(rt; library.classes().iter().all(|class| is_port(class)));
+    Ok(())
+}
+
+#[test]
+fn some_components_are_live(rt: HostRuntime) -> Result<(), Fail> {
     for (ident, live) in [(1, true), (6, false), (7, true), (8, false)] {
         assert_eq!(rt; is_live(MASTERSHIP, ident), live);
     }
@@ -140,10 +145,16 @@ fn instances_rise(pairs: &[(u32, u32)]) -> bool {
 }
 
 #[test]
-fn the_largest_library_is_copied_and_built_on(rt: HostRuntime) -> Result<(), Fail> {
+fn the_largest_library_is_copied(rt: HostRuntime) -> Result<(), Fail> {
     let document = largest(rt.alloc())?;
     let (library, instances) = copies(rt.alloc(), &document)?;
     assert!(rt; are_largest(&library, &instances, 256, 4_096));
+    Ok(())
+}
+
+#[test]
+fn the_largest_library_is_built_on(rt: HostRuntime) -> Result<(), Fail> {
+    let document = largest(rt.alloc())?;
     let (library, instances) = built_on(rt.alloc(), &document)?;
     assert!(rt; are_largest(&library, &instances, 259, 4_099));
     Ok(())

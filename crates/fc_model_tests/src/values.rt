@@ -1,7 +1,7 @@
 // Values with their bytes and codes with their causes, which stand in the specification of the format.
 use crate::digits::bytes_of;
 use crate::kinds::{Kind, kind_of, number, ty_of, value_of};
-use fc_base::{Code, OpFault};
+use fc_base::{Code, Memory, OpFault};
 use fc_types::Ty;
 use fc_value::{Value, read_full, write_full};
 use std::alloc::Global;
@@ -36,50 +36,81 @@ Nested: 00000001 01120004 00000002 01120010 00000003 0007 00000004 0008
 Ending: 00 01120005 61000000
 Empty:";
 
+// What is written of the value of a kind.
+fn written_of(alloc: Global, kind: Kind) -> Result<Vec<u8>, OpFault> {
+    let ty = ty_of(alloc, kind)?;
+    let value = value_of(alloc, kind)?;
+    written(alloc, &ty, &value)
+}
+
+// What is read of bytes as a value of a kind.
+fn read_of(alloc: Global, kind: Kind, digits: &str) -> Result<Result<Value, OpFault>, Memory> {
+    let ty = ty_of(alloc, kind)?;
+    let bytes = bytes_of(alloc, digits)?;
+    Ok(read_full(alloc, &ty, &bytes))
+}
+
+// Whether bytes are read as the value of a kind.
+fn is_read(alloc: Global, kind: Kind, digits: &str) -> Result<bool, Memory> {
+    let value = value_of(alloc, kind)?;
+    Ok(read_of(alloc, kind, digits)? == Ok(value))
+}
+
 #[test]
-fn values_and_their_bytes(rt: HostRuntime) -> Result<(), Fail> {
-    let alloc = rt.alloc();
+fn values_have_their_bytes(rt: HostRuntime) -> Result<(), Fail> {
     for row in SAMPLES.lines() {
         let (kind, digits) = kinded(row)?;
-        let ty = ty_of(alloc, kind)?;
-        let value = value_of(alloc, kind)?;
-        let bytes = bytes_of(alloc, digits)?;
-        assert_eq!(rt; written(alloc, &ty, &value)?, bytes, "{row}");
-        assert!(rt; read_full(alloc, &ty, &bytes) == Ok(value), "{row}");
+        let bytes = bytes_of(rt.alloc(), digits)?;
+        assert_eq!(rt; written_of(rt.alloc(), kind)?, bytes, "{row}");
     }
     Ok(())
 }
 
 #[test]
-fn numbers_at_their_ends(rt: HostRuntime) -> Result<(), Fail> {
-    let alloc = rt.alloc();
-    let rows: [(u8, bool, i128, &str); 16] = [
-        (1, false, 0, "00"),
-        (1, false, 0xFF, "FF"),
-        (1, true, -0x80, "80"),
-        (1, true, 0x7F, "7F"),
-        (2, false, 0, "0000"),
-        (2, false, 0xFFFF, "FFFF"),
-        (2, true, -0x8000, "8000"),
-        (2, true, 0x7FFF, "7FFF"),
-        (4, false, 0, "00000000"),
-        (4, false, 0xFFFF_FFFF, "FFFFFFFF"),
-        (4, true, -0x8000_0000, "80000000"),
-        (4, true, 0x7FFF_FFFF, "7FFFFFFF"),
-        (8, false, 0, "0000000000000000"),
-        (8, false, 0xFFFF_FFFF_FFFF_FFFF, "FFFFFFFFFFFFFFFF"),
-        (8, true, -0x8000_0000_0000_0000, "8000000000000000"),
-        (8, true, 0x7FFF_FFFF_FFFF_FFFF, "7FFFFFFFFFFFFFFF"),
-    ];
-    for (bytes, signed, end, digits) in rows {
+fn bytes_have_their_values(rt: HostRuntime) -> Result<(), Fail> {
+    for row in SAMPLES.lines() {
+        let (kind, digits) = kinded(row)?;
+        assert!(rt; is_read(rt.alloc(), kind, digits)?, "{row}");
+    }
+    Ok(())
+}
+
+// The least and the greatest number of each size, with its bytes.
+const ENDS: [(u8, bool, i128, &str); 16] = [
+    (1, false, 0, "00"),
+    (1, false, 0xFF, "FF"),
+    (1, true, -0x80, "80"),
+    (1, true, 0x7F, "7F"),
+    (2, false, 0, "0000"),
+    (2, false, 0xFFFF, "FFFF"),
+    (2, true, -0x8000, "8000"),
+    (2, true, 0x7FFF, "7FFF"),
+    (4, false, 0, "00000000"),
+    (4, false, 0xFFFF_FFFF, "FFFFFFFF"),
+    (4, true, -0x8000_0000, "80000000"),
+    (4, true, 0x7FFF_FFFF, "7FFFFFFF"),
+    (8, false, 0, "0000000000000000"),
+    (8, false, 0xFFFF_FFFF_FFFF_FFFF, "FFFFFFFFFFFFFFFF"),
+    (8, true, -0x8000_0000_0000_0000, "8000000000000000"),
+    (8, true, 0x7FFF_FFFF_FFFF_FFFF, "7FFFFFFFFFFFFFFF"),
+];
+
+#[test]
+fn numbers_at_their_ends_are_read(rt: HostRuntime) -> Result<(), Fail> {
+    for (bytes, signed, end, digits) in ENDS {
+        let spelled = bytes_of(rt.alloc(), digits)?;
+        let read = read_full(rt.alloc(), &number(bytes, signed, end, end), &spelled);
+        assert!(rt; read == Ok(Value::Number(end)), "{digits}");
+    }
+    Ok(())
+}
+
+#[test]
+fn numbers_at_their_ends_are_written(rt: HostRuntime) -> Result<(), Fail> {
+    for (bytes, signed, end, digits) in ENDS {
         let ty = number(bytes, signed, end, end);
-        let spelled = bytes_of(alloc, digits)?;
-        assert!(rt;
-            read_full(alloc, &ty, &spelled) == Ok(Value::Number(end)),
-            "{digits}"
-        );
-        let mut written = Vec::new(alloc);
-        write_full(&ty, &Value::Number(end), &mut written)?;
+        let spelled = bytes_of(rt.alloc(), digits)?;
+        let written = written(rt.alloc(), &ty, &Value::Number(end))?;
         assert_eq!(rt; written, spelled, "{digits}");
     }
     Ok(())
@@ -94,13 +125,9 @@ Nested: 00000002 01120010 00000004 0008 00000003 0007 00000001 01120004";
 
 #[test]
 fn other_bytes_of_values(rt: HostRuntime) -> Result<(), Fail> {
-    let alloc = rt.alloc();
     for row in OTHERS.lines() {
         let (kind, digits) = kinded(row)?;
-        let ty = ty_of(alloc, kind)?;
-        let bytes = bytes_of(alloc, digits)?;
-        let value = value_of(alloc, kind)?;
-        assert!(rt; read_full(alloc, &ty, &bytes) == Ok(value), "{row}");
+        assert!(rt; is_read(rt.alloc(), kind, digits)?, "{row}");
     }
     Ok(())
 }
@@ -165,10 +192,8 @@ fn code_named(name: &str) -> Option<Code> {
 }
 
 // Whether bytes are no value of a kind, by this code.
-fn is_refused(alloc: Global, kind: Kind, digits: &str, code: Code) -> Result<bool, Fail> {
-    let ty = ty_of(alloc, kind)?;
-    let bytes = bytes_of(alloc, digits)?;
-    Ok(read_full(alloc, &ty, &bytes) == Err(OpFault::Refused(code)))
+fn is_refused(alloc: Global, kind: Kind, digits: &str, code: Code) -> Result<bool, Memory> {
+    Ok(read_of(alloc, kind, digits)? == Err(OpFault::Refused(code)))
 }
 
 #[test]

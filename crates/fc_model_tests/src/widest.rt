@@ -41,27 +41,53 @@ fn same(alloc: Global, byte: u8, count: usize) -> Result<Vec<u8>, Memory> {
     Ok(bytes)
 }
 
-#[test]
-fn the_widest_struct_opens_and_is_written_and_read(rt: HostRuntime) -> Result<(), Fail> {
-    let alloc = rt.alloc();
+// The struct of these fields.
+fn widest(alloc: Global) -> Result<Ty, Memory> {
     let fields = truths(alloc)?;
-    let ty = Ty::Struct { fields };
-    let value = first(alloc, &ty)?;
+    Ok(Ty::Struct { fields })
+}
+
+// The value that a type begins with, and what is written of it.
+fn opened(alloc: Global, ty: &Ty) -> Result<(Value, Vec<u8>), OpFault> {
+    let value = first(alloc, ty)?;
     let mut bytes = Vec::new(alloc);
-    write_full(&ty, &value, &mut bytes)?;
-    assert!(rt; bytes == same(alloc, 0, FIELDS as usize)?);
-    assert!(rt; read_full(alloc, &ty, &bytes) == Ok(value));
+    write_full(ty, &value, &mut bytes)?;
+    Ok((value, bytes))
+}
+
+// A byte of zero for each field.
+fn zeros(alloc: Global) -> Result<Vec<u8>, Memory> {
+    same(alloc, 0, FIELDS as usize)
+}
+
+#[test]
+fn the_widest_struct_opens_and_is_written(rt: HostRuntime) -> Result<(), Fail> {
+    let ty = widest(rt.alloc())?;
+    let (_, bytes) = opened(rt.alloc(), &ty)?;
+    assert!(rt; bytes == zeros(rt.alloc())?);
     Ok(())
 }
 
 #[test]
-fn a_key_of_all_fields_is_their_struct(rt: HostRuntime) -> Result<(), Fail> {
-    let alloc = rt.alloc();
+fn the_widest_struct_is_read(rt: HostRuntime) -> Result<(), Fail> {
+    let ty = widest(rt.alloc())?;
+    let (value, bytes) = opened(rt.alloc(), &ty)?;
+    assert!(rt; read_full(rt.alloc(), &ty, &bytes) == Ok(value));
+    Ok(())
+}
+
+// The value of the key of all fields, in the value that their struct begins with.
+fn whole_key(alloc: Global) -> Result<Vec<u8>, Fail> {
     let all = key(alloc, 1, ids(alloc)?.as_slice())?;
+    let value = first(alloc, &widest(alloc)?)?;
     let fields = truths(alloc)?;
-    let value = first(alloc, &Ty::Struct { fields })?;
-    let bytes = key_value(alloc, truths(alloc)?.as_slice(), &all, &value)?;
-    assert!(rt; bytes == same(alloc, 0, FIELDS as usize)?);
+    Ok(key_value(alloc, fields.as_slice(), &all, &value)?)
+}
+
+#[test]
+fn a_key_of_all_fields_is_their_struct(rt: HostRuntime) -> Result<(), Fail> {
+    let bytes = whole_key(rt.alloc())?;
+    assert!(rt; bytes == zeros(rt.alloc())?);
     Ok(())
 }
 
@@ -75,12 +101,16 @@ fn parts(alloc: Global) -> Result<Vec<Ilv>, Memory> {
     Ok(ilvs)
 }
 
+// What is read of those parts.
+fn changes(alloc: Global) -> Result<List<(u32, Value)>, OpFault> {
+    let ty = widest(alloc)?;
+    let given = parts(alloc)?;
+    read_sparse(alloc, &ty, &given)
+}
+
 #[test]
 fn parts_name_every_field(rt: HostRuntime) -> Result<(), Fail> {
-    let alloc = rt.alloc();
-    let fields = truths(alloc)?;
-    let given = parts(alloc)?;
-    let changes = read_sparse(alloc, &Ty::Struct { fields }, &given)?;
+    let changes = changes(rt.alloc())?;
     assert_eq!(rt; changes.len(), FIELDS as usize);
     for (change, ident) in changes.as_slice().iter().zip(1u32..) {
         assert!(rt; *change == (ident, Value::Truth(true)), "{ident}");
@@ -104,16 +134,19 @@ fn held(alloc: Global, bytes: &[u8]) -> Result<Vec<u8>, Memory> {
     Ok(longer)
 }
 
+// Whether the longest value of a type comes back, by itself and in a struct of it alone.
+fn longest_comes_back(alloc: Global, ty: Ty) -> Result<bool, OpFault> {
+    let given = same(alloc, b'a', BYTES)?;
+    let is_alone = comes_back(alloc, &ty, &given)?;
+    let fields = one(alloc, ty)?;
+    let longer = held(alloc, &given)?;
+    Ok(is_alone && comes_back(alloc, &Ty::Struct { fields }, &longer)?)
+}
+
 #[test]
 fn the_longest_text_and_bytes_are_read_and_written(rt: HostRuntime) -> Result<(), Fail> {
-    let alloc = rt.alloc();
-    let given = same(alloc, b'a', BYTES)?;
-    let longer = held(alloc, &given)?;
-    for ty in [Ty::String { length: 65_531 }, Ty::Octets { length: 65_531 }] {
-        assert!(rt; comes_back(alloc, &ty, &given)?);
-        let fields = one(alloc, ty)?;
-        assert!(rt; comes_back(alloc, &Ty::Struct { fields }, &longer)?);
-    }
+    assert!(rt; longest_comes_back(rt.alloc(), Ty::String { length: 65_531 })?);
+    assert!(rt; longest_comes_back(rt.alloc(), Ty::Octets { length: 65_531 })?);
     Ok(())
 }
 
@@ -127,21 +160,28 @@ fn operations(alloc: Global) -> Result<Vec<EntryOp>, Memory> {
     Ok(ops)
 }
 
+// How many codes operations have in a mode, the code of the last, and how many entries are left.
+fn ran(alloc: Global, mode: Mode, ops: &[EntryOp]) -> Result<(usize, Option<Code>, usize), Memory> {
+    let mut map = CopyingMap::new(alloc);
+    let codes = run_mode(alloc, &mut map, mode, ops)?;
+    Ok((
+        codes.len(),
+        codes.as_slice().last().copied(),
+        map.entries().len(),
+    ))
+}
+
 #[test]
 fn many_operations_go_by_each_mode(rt: HostRuntime) -> Result<(), Fail> {
-    let alloc = rt.alloc();
-    let ops = operations(alloc)?;
-    let rows = [
+    let ops = operations(rt.alloc())?;
+    let count = OPERATIONS as usize;
+    for (mode, left) in [
         (Mode::AllOrNone, 0),
-        (Mode::UntilFailure, OPERATIONS as usize),
-        (Mode::Continue, OPERATIONS as usize),
-    ];
-    for (mode, left) in rows {
-        let mut map = CopyingMap::new(alloc);
-        let codes = run_mode(alloc, &mut map, mode, ops.as_slice())?;
-        assert_eq!(rt; codes.len(), OPERATIONS as usize + 1);
-        assert_eq!(rt; codes.get(OPERATIONS as usize), Some(&Code::EXISTS));
-        assert_eq!(rt; map.entries().len(), left);
+        (Mode::UntilFailure, count),
+        (Mode::Continue, count),
+    ] {
+        let told = ran(rt.alloc(), mode, &ops)?;
+        assert_eq!(rt; told, (count + 1, Some(Code::EXISTS), left));
     }
     Ok(())
 }

@@ -38,16 +38,26 @@ fn expanded(alloc: Global, text: &str) -> Result<String, Fail> {
     Ok(document)
 }
 
+// What is told of the document of a form with these words.
+fn told(alloc: Global, form: &str, words: &str) -> Result<Vec<u8>, Fail> {
+    let text = filled(alloc, form, words)?;
+    let document = expanded(alloc, &text)?;
+    line(alloc, document.as_bytes())
+}
+
+// The line of what is to be told.
+fn wanted_line(alloc: Global, wanted: &str) -> Result<String, Fail> {
+    if wanted == "accepted" {
+        return Ok(String::from_str(alloc, "accepted\n")?);
+    }
+    Ok(format!(in alloc; "refused library {wanted}\n")?)
+}
+
 // Whether what is told of the document of a row is what the row says.
 fn is_told(alloc: Global, form: &str, row: &str) -> Result<bool, Fail> {
     let (words, wanted) = row.split_once(" => ").ok_or("a row")?;
-    let document = expanded(alloc, &filled(alloc, form, words)?)?;
-    let told = line(alloc, document.as_bytes())?;
-    let wanted = if wanted == "accepted" {
-        format!(in alloc; "accepted\n")?
-    } else {
-        format!(in alloc; "refused library {wanted}\n")?
-    };
+    let wanted = wanted_line(alloc, wanted)?;
+    let told = told(alloc, form, words)?;
     Ok(told.as_slice() == wanted.as_bytes())
 }
 

@@ -3,6 +3,7 @@ use crate::documents::checks::CHECKS;
 use crate::documents::keys::KEYS;
 use crate::documents::kinds::KINDS;
 use crate::documents::line;
+use std::alloc::Global;
 use std::test::Fail;
 
 // What stands before a table of each kind, so that only that table can be at fault.
@@ -28,31 +29,38 @@ fn before(word: &str) -> &'static str {
     }
 }
 
-// Each case is the word for what stands before it, the rest of the document, and what is told of it.
+// What is told of a case, and what is to be told: the case is the word for what stands before it, the rest of the document, and that.
+fn lines_of(alloc: Global, case: &str) -> Result<(Vec<u8>, String), Fail> {
+    let (word, rest) = case.split_once("\n").ok_or("a word")?;
+    let (table, wanted) = rest.split_once("=> ").ok_or("a line")?;
+    let before = before(word);
+    let document = format!(in alloc; "{before}{table}")?;
+    let told = line(alloc, document.as_bytes())?;
+    Ok((told, format!(in alloc; "refused library {wanted}\n")?))
+}
+
 #[test]
 fn faults_have_their_lines(rt: HostRuntime) -> Result<(), Fail> {
-    let alloc = rt.alloc();
     for cases in [KEYS, KINDS, CHECKS] {
         for case in cases.split("\n\n") {
-            let (word, rest) = case.split_once("\n").ok_or(case)?;
-            let (table, wanted) = rest.split_once("=> ").ok_or(case)?;
-            let before = before(word);
-            let document = format!(in alloc; "{before}{table}")?;
-            let wanted = format!(in alloc; "refused library {wanted}\n")?;
-            let told = line(alloc, document.as_bytes())?;
+            let (told, wanted) = lines_of(rt.alloc(), case)?;
             assert_eq!(rt; told.as_slice(), wanted.as_bytes(), "{case}");
         }
     }
     Ok(())
 }
 
+// What is told of a document of this key alone, and what is to be told.
+fn lines_of_key(alloc: Global, key: &str) -> Result<(Vec<u8>, String), Fail> {
+    let document = format!(in alloc; "{key} = 1\n")?;
+    let told = line(alloc, document.as_bytes())?;
+    Ok((told, format!(in alloc; "refused library unknown {key}\n")?))
+}
+
 #[test]
 fn a_long_key_stands_whole_in_its_line(rt: HostRuntime) -> Result<(), Fail> {
-    let alloc = rt.alloc();
-    let key = "k".repeat(alloc, 1_000_000)?;
-    let document = format!(in alloc; "{key} = 1\n")?;
-    let wanted = format!(in alloc; "refused library unknown {key}\n")?;
-    let told = line(alloc, document.as_bytes())?;
+    let key = "k".repeat(rt.alloc(), 1_000_000)?;
+    let (told, wanted) = lines_of_key(rt.alloc(), &key)?;
     assert!(rt; told.as_slice() == wanted.as_bytes());
     Ok(())
 }
