@@ -54,7 +54,7 @@ use Rattle.fc_transactions.specs.State.{TransactionState, opened}
 use Rattle.fc_transactions.specs.declared.ledger.Ledger.{Ledger}
 use Rattle.fc_answering.specs.Mastership.{HasMastership}
 use Rattle.fc_answering.proofs.Written.{epoch_refused, floor_refused, put_at, refused_alone}
-use Rattle.fc_answering.specs.Answering.{AreSame, Goes, IsHeardWhole, is_shaped, is_unclaimed, keeping}
+use Rattle.fc_answering.specs.Answering.{Answers, AreNotices, AreSame, IsHeardWhole, heard_of, is_shaped, is_unclaimed, keeping}
 
 -- ---- a response that is read
 
@@ -255,6 +255,7 @@ module _ (s : TransactionState) (kept : Option said.Message) (peer : ℕ) (m : M
     response : Option Message
     notices : List Out
     outs : t.outs ≡ responses peer response ++ notices
+    told : AreNotices s peer m notices
     says : ((is_unclaimed v && (m.source == s.ce && is_shaped (count == 0) a)) ≡ true → HasMastership s.ledger.store) → AreSame response (said_at s kept m selects codes a (body_of count a) v).says
 
   -- the codes of a Config that is executed: one for each operation
@@ -331,7 +332,7 @@ module _ (s : TransactionState) (kept : Option said.Message) (peer : ℕ) (m : M
       → (v ≡ Next → is_epoch s.epoch ≡ true) → (v ≡ Next → (count == 0) ≡ false) → (codes : List ℕ) × At (by_verdict s peer m selects a v) a v codes
   at_by a (Claims e) shape phase plain is later = (
     each_gets 0 selects,
-    record { keeps = one_code m selects 0; response = reply m selects (each_gets 0 selects); notices = []; outs = sym (append-nil (responses peer (reply m selects (each_gets 0 selects)))); says = λ n. one_code m selects 0 },
+    record { keeps = one_code m selects 0; response = reply m selects (each_gets 0 selects); notices = []; told = (s.ledger.store.library, [], refl); outs = sym (append-nil (responses peer (reply m selects (each_gets 0 selects)))); says = λ n. one_code m selects 0 },
   )
   at_by a Unclaimed shape phase plain is later = (
     (done (m.source == s.ce) m.flags.at).codes,
@@ -339,24 +340,25 @@ module _ (s : TransactionState) (kept : Option said.Message) (peer : ℕ) (m : M
       keeps = same;
       response = reply m selects (done (m.source == s.ce) m.flags.at).codes;
       notices = notice_outs (done (m.source == s.ce) m.flags.at).ledger.store.library (route s.id m.source peer) (done (m.source == s.ce) m.flags.at).notices;
+      told = ((done (m.source == s.ce) m.flags.at).ledger.store.library, (done (m.source == s.ce) m.flags.at).notices, refl);
       outs = refl;
       says = λ n. unclaimed_says (m.source == s.ce) m.flags.at a phase plain n;
     },
   )
   at_by a Stale shape phase plain is later = (
     each_gets 12 selects,
-    record { keeps = same; response = reply m selects (each_gets 12 selects); notices = notice_outs s.ledger.store.library (route s.id m.source peer) []; outs = refl; says = λ n. one_code m selects 12 },
+    record { keeps = same; response = reply m selects (each_gets 12 selects); notices = notice_outs s.ledger.store.library (route s.id m.source peer) []; told = (s.ledger.store.library, [], refl); outs = refl; says = λ n. one_code m selects 12 },
   )
-  at_by a Again shape phase plain is later = ([], record { keeps = same; response = s.kept; notices = []; outs = sym (append-nil (responses peer s.kept)); says = λ n. same })
+  at_by a Again shape phase plain is later = ([], record { keeps = same; response = s.kept; notices = []; told = (s.ledger.store.library, [], refl); outs = sym (append-nil (responses peer s.kept)); says = λ n. same })
   at_by a Gap shape phase plain is later = (
     each_gets 16 selects,
-    record { keeps = same; response = reply m selects (each_gets 16 selects); notices = notice_outs s.ledger.store.library (route s.id m.source peer) []; outs = refl; says = λ n. one_code m selects 16 },
+    record { keeps = same; response = reply m selects (each_gets 16 selects); notices = notice_outs s.ledger.store.library (route s.id m.source peer) []; told = (s.ledger.store.library, [], refl); outs = refl; says = λ n. one_code m selects 16 },
   )
   at_by a Next shape phase plain is later =
       let d = acts s.id s.epoch s.ledger m selects a in
       let code = (protocol.acts s.id s.epoch (telling s.ledger m selects a d.codes) (body_of count a) s.ledger.records.floor s.ledger.records.entries).code in
       let said = same_reply m selects d.codes code (acts_long s.id s.epoch s.ledger m selects a shape) (acts_told s.id s.epoch s.ledger m selects named.records (is refl) a count shape (later refl)) in
-      (d.codes, record { keeps = said; response = reply m selects d.codes; notices = notice_outs d.ledger.store.library (route s.id m.source peer) d.notices; outs = refl; says = λ n. said })
+      (d.codes, record { keeps = said; response = reply m selects d.codes; notices = notice_outs d.ledger.store.library (route s.id m.source peer) d.notices; told = (d.ledger.store.library, d.notices, refl); outs = refl; says = λ n. said })
 
   asked_phase : (at : Bool) → m.flags.at ≡ at → (at ≡ true → PhaseIs (asked_of m selects)) × (at ≡ false → Unflagged (asked_of m selects))
   asked_phase true e = (
@@ -372,7 +374,7 @@ module _ (s : TransactionState) (kept : Option said.Message) (peer : ℕ) (m : M
   abbrev x_of : Stamp
   x_of = stamp m.corr
 
-  pub goes : (c : Circumstance) × (h : Heard) × Goes s kept peer m selects c h
+  pub goes : (codes : List ℕ) × Answers s kept peer m selects codes
   unfolding configured
   goes =
       let a = asked_of m selects in
@@ -384,16 +386,15 @@ module _ (s : TransactionState) (kept : Option said.Message) (peer : ℕ) (m : M
       let h = whole s kept m selects codes a in
       let all = abides_too (configured s peer m selects) (heard s m selects a) h (abides s peer m selects named) (alike_whole s kept m selects codes a) in
       let is = sym (whole_by s kept m selects codes a) in (
-        telling s.ledger m selects a codes,
-        h,
+        codes,
         record {
-          heard = refl;
           state = all.state;
           kept = subst (λ (g : Heard). AreSame (configured s peer m selects).state.kept g.element.kept) is at.keeps;
           facts = all.facts;
           response = at.response;
           notices = at.notices;
           outs = at.outs;
+          told = at.told;
           says = λ n. subst (λ (g : Heard). AreSame at.response g.says) is (at.says n);
         },
       )
@@ -423,9 +424,10 @@ pub record OneMore (s : TransactionState) (el : ElementState) (gs : List trace.F
 
 one_more : (s : TransactionState) (el : ElementState) (gs : List trace.Fact) (c : Came) → IsNamed s → IsLike s el → AreSame s.kept el.kept → OneMore s el gs c
 one_more s el gs c named like same =
-    let (circumstance, h, g) = goes s el.kept c.peer c.message c.selects named same in
+    let (codes, g) = goes s el.kept c.peer c.message c.selects named same in
     let body = body_of (stamp c.message.corr).count (asked_of c.message c.selects) in
-    let is : h ≡ hears s.id el c.message.source circumstance (stamp c.message.corr) body = g.heard ∙ ap (λ (e : ElementState). hears s.id e c.message.source circumstance (stamp c.message.corr) body) (el_is s el like) in
+    let circumstance = telling s.ledger c.message c.selects (asked_of c.message c.selects) codes in
+    let is : heard_of s el.kept c.message c.selects codes ≡ hears s.id el c.message.source circumstance (stamp c.message.corr) body = ap (λ (e : ElementState). hears s.id e c.message.source circumstance (stamp c.message.corr) body) (el_is s el like) in
     let t = configured s c.peer c.message c.selects in
     record {
       arrival = record { sender = c.message.source; circumstance = circumstance; stamp = stamp c.message.corr; body = body };

@@ -2,6 +2,7 @@
 use Rattle.std.specs.Prelude.{◌≡◌, ◌≢◌, ℕ, ◌==◌, ◌&&◌, Bool, true, false, List, [], ◌++◌, Option, Some, None}
 use Rattle.std.specs.List.{flat_map}
 use Rattle.fc_abiding.specs.Abiding.{IsLike}
+use Rattle.fc_abiding.specs.Responses.{telling}
 use Rattle.fc_abiding.specs.Runs.{Life}
 use Rattle.fc_asks.specs.Codes.{code_of, select_codes}
 use Rattle.fc_machine.specs.Trace.{bare_facts}
@@ -9,6 +10,8 @@ use Rattle.fc_msg.specs.declared.message.Message.{Message}
 use Rattle.fc_msg.specs.declared.message.MsgBody.{MsgBody}
 use Rattle.fc_msg.specs.declared.message.MsgBody.TheVariants as body
 use Rattle.fc_path.specs.declared.oper.Select.{Select}
+use Rattle.fc_events.specs.declared.subscriptions.Notice.{Notice}
+use Rattle.fc_performing.specs.Notices.{notice_outs, route}
 use Rattle.fc_performing.specs.Sending.{responses}
 use Rattle.fc_performing.specs.declared.out.Out.{Out}
 use Rattle.fc_phases.specs.Asking.{body_of}
@@ -23,6 +26,7 @@ use Rattle.fc_protocol.specs.declared.verdict.Verdict.{Verdict}
 use Rattle.fc_protocol.specs.declared.verdict.Verdict.TheVariants.{Claim as Claims, Unclaimed, Stale, Again, Gap, Next}
 use Rattle.fc_transactions.specs.Order.{asked_of, configured, judged}
 use Rattle.fc_transactions.specs.State.{TransactionState}
+use Rattle.fc_types.specs.declared.class.Class.{Class}
 use Rattle.fc_answering.specs.Mastership.{HasMastership}
 
 -- the codes that a control element reads in a message
@@ -84,16 +88,24 @@ is_unclaimed Next = false
 abbrev pub is_by_store : TransactionState → Message → List Select → Bool
 is_by_store s m selects = is_unclaimed (judged s m (asked_of m selects)) && (m.source == s.ce && is_shaped ((stamp m.corr).count == 0) (asked_of m selects))
 
--- what an element with this kept reply becomes and says at a Config is what the protocol says in this circumstance
-pub record Goes (s : TransactionState) (before : Option said.Message) (peer : ℕ) (m : Message) (selects : List Select) (c : Circumstance) (h : Heard) : Type 0 where
-  pub heard : h ≡ hears s.id (keeping s before) m.source c (stamp m.corr) (body_of (stamp m.corr).count (asked_of m selects))
-  pub state : IsLike (configured s peer m selects).state h.element
-  pub kept : AreSame (configured s peer m selects).state.kept h.element.kept
-  pub facts : bare_facts (configured s peer m selects).facts ≡ h.facts
+-- what the protocol says of it at an element with this kept reply, in the circumstance that the state, the message and the codes of its operations make
+abbrev pub heard_of : TransactionState → Option said.Message → Message → List Select → List ℕ → Heard
+heard_of s before m selects codes = hears s.id (keeping s before) m.source (telling s.ledger m selects (asked_of m selects) codes) (stamp m.corr) (body_of (stamp m.corr).count (asked_of m selects))
+
+-- what tells of events to the sender of a message, and nothing else
+abbrev pub AreNotices : TransactionState → ℕ → Message → List Out → Type 0
+AreNotices s peer m outs = (library : List Class) × (notices : List Notice) × (outs ≡ notice_outs library (route s.id m.source peer) notices)
+
+-- what an element with this kept reply becomes and says at a Config is what the protocol says: first the response, and then notices of events alone
+pub record Answers (s : TransactionState) (before : Option said.Message) (peer : ℕ) (m : Message) (selects : List Select) (codes : List ℕ) : Type 0 where
+  pub state : IsLike (configured s peer m selects).state (heard_of s before m selects codes).element
+  pub kept : AreSame (configured s peer m selects).state.kept (heard_of s before m selects codes).element.kept
+  pub facts : bare_facts (configured s peer m selects).facts ≡ (heard_of s before m selects codes).facts
   pub response : Option Message
   pub notices : List Out
   pub outs : (configured s peer m selects).outs ≡ responses peer response ++ notices
-  pub says : (is_by_store s m selects ≡ true → HasMastership s.ledger.store) → AreSame response h.says
+  pub told : AreNotices s peer m notices
+  pub says : (is_by_store s m selects ≡ true → HasMastership s.ledger.store) → AreSame response (heard_of s before m selects codes).says
 
 -- the life is that of an element of the protocol which hears some requests, and keeps the same reply
 abbrev pub IsHeardWhole : ℕ → ℕ → Life → Type 0

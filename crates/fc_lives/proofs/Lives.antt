@@ -1,10 +1,10 @@
 -- The life of an element is that of the Configs that it takes.
-use Rattle.std.proofs.Common.{◌≡◌, ℕ, Bool, true, false, not, ◌&&◌, ◌==◌, ◌/◌, ◌%◌, ◌^◌, List, [], ◌∷◌, ◌++◌, map, length, append_assoc, if◌then◌else◌, refl, sym, ap, ap₂, subst, ◌∙◌}
+use Rattle.std.proofs.Common.{◌≡◌, ℕ, ◌<◌, Bool, true, false, not, ◌&&◌, ◌==◌, ◌/◌, ◌%◌, ◌^◌, List, [], ◌∷◌, ◌++◌, map, length, append_assoc, if◌then◌else◌, refl, sym, ap, ap₂, subst, ◌∙◌}
 use Rattle.std.proofs.lemmas.List.{length-map}
 use Rattle.std.specs.List.{AllByRecursion}
 use Rattle.fc_abiding.specs.Runs.{Came, IsHeard, Life, life_from, life_of}
 use Rattle.fc_blocks.specs.Opening.{opened_store, with_own}
-use Rattle.fc_element.specs.ElementMachine.{is_ce, step}
+use Rattle.fc_element.specs.ElementMachine.{Turn, all_get, by_order, hearing_if, is_associated, is_ce, is_own, on_body, on_config, step, taking, turn, with_transactions}
 use Rattle.fc_element.specs.ElementState.{ElementState, opened}
 use Rattle.fc_element.specs.Runs.{Taken, after, facts, is_taken, ledgered, taken, taken_at, taken_body, taken_if}
 use Rattle.fc_element.specs.declared.input.ElIn.{ElIn}
@@ -20,9 +20,15 @@ use Rattle.fc_standing.specs.Holding.{IsSettled}
 use Rattle.fc_store.specs.Stores.{IsWhole, IsWholeTree, Pairwise, Stored, Tree, declared_in, opening_tree, opens}
 use Rattle.fc_store.specs.Stores as stores
 use Rattle.fc_abiding.proofs.Hearing.{life_heard}
-use Rattle.fc_folding.proofs.Lives.{life_fits, life_folds}
+use Rattle.fc_folding.proofs.Lives.{life_controller, life_fits, life_folds, life_unclaimed}
 use Rattle.fc_lfbs.specs.BuiltIns.{built_in}
-use Rattle.fc_transactions.specs.Order.{configured}
+use Rattle.fc_transactions.specs.Order.{Step, configured}
+use Rattle.fc_abiding.proofs.Hearing.{replaced_facts, replaced_heard, replaced_state}
+use Rattle.fc_msg.specs.Messages.{message_fits}
+use Rattle.fc_path.specs.Results.{results_fit}
+use Rattle.fc_path.specs.declared.oper.Select.{Select}
+use Rattle.fc_performing.specs.declared.out.Out.{Out}
+use Rattle.fc_protocol.specs.Messages.{stamp}
 use Rattle.fc_transactions.specs.State.{TransactionState}
 use Rattle.fc_types.specs.declared.class.Class.{Class}
 use Rattle.fc_lives.specs.Lives.{life_after}
@@ -116,3 +122,44 @@ module _ (id ce : ℕ) (library : List Class) (instances : List (ℕ × ℕ)) (i
 
   pub heard : IsHeard id ce (life_after id ce library instances is)
   heard = subst (IsHeard id ce) back (life_heard id ce store configs)
+
+  pub unclaimed : (life_after id ce library instances is).state.epoch ≡ 0 → (life_after id ce library instances is).state.ledger.records.entries ≡ []
+  unclaimed =
+      subst (λ (l : Life). l.state.epoch ≡ 0 → l.state.ledger.records.entries ≡ []) back
+      (life_unclaimed id ce store configs (bare (library ++ built_in) (with_own instances)) (whole (library ++ built_in) (with_own instances)) (of_controls (opened id ce library instances) is))
+
+  pub controller : is_control ce ≡ true → is_control (life_after id ce library instances is).state.ce ≡ true
+  controller =
+      subst (λ (l : Life). is_control ce ≡ true → is_control l.state.ce ≡ true) back
+      (life_controller id ce store configs (bare (library ++ built_in) (with_own instances)) (whole (library ++ built_in) (with_own instances)) (of_controls (opened id ce library instances) is))
+
+-- ---- a life that was replaced changes nothing
+module _ (s : ElementState) (peer : ℕ) (m : Message) (selects : List Select) (below : (stamp m.corr).life < s.transactions.epoch) where
+  -- the state and the facts of a turn are as before
+  abbrev Nothing : Turn → Type 0
+  Nothing t = (t.state ≡ s) × (t.facts ≡ [])
+
+  nothing : (outs : List Out) → Nothing (turn s outs)
+  nothing outs = (refl, refl)
+
+  taking_by : (t : Step) → t.state ≡ s.transactions → t.is_heard ≡ false → t.facts ≡ [] → Nothing (taking s peer m t)
+  taking_by t state heard facts = (ap (λ (b : Bool). hearing_if b (with_transactions s t.state) peer m) heard ∙ ap (with_transactions s) state, facts)
+
+  either_turn : (b : Bool) (t u : Turn) → Nothing t → Nothing u → Nothing (if b then t else u)
+  either_turn true t u h k = h
+  either_turn false t u h k = k
+
+  order_nothing : Nothing (by_order s peer m selects)
+  order_nothing =
+      let taken = taking s peer m (configured s.transactions peer m selects) in
+      let last = taking_by (configured s.transactions peer m selects) (replaced_state s.transactions peer m selects below) (replaced_heard s.transactions peer m selects below) (replaced_facts s.transactions peer m selects below) in
+      let moded = either_turn (m.flags.em == 0) (all_get s peer m selects 18) taken (refl, refl) last in
+      let own = either_turn (not (is_own s m)) (all_get s peer m selects 4) (if m.flags.em == 0 then all_get s peer m selects 18 else taken) (refl, refl) moded in
+      either_turn (not (results_fit selects && message_fits m)) (turn s []) (if not (is_own s m) then all_get s peer m selects 4 else (if m.flags.em == 0 then all_get s peer m selects 18 else taken)) (nothing []) own
+
+  config_nothing : Nothing (on_config s peer m selects)
+  config_nothing = either_turn (is_associated s m) (by_order s peer m selects) (turn s []) order_nothing (nothing [])
+
+  pub replaced_nothing : m.body ≡ body.Config selects → Nothing (step s (Arrived peer m))
+  unfolding step
+  replaced_nothing is = either_turn (is_ce m.source) (on_body s peer m m.body) (turn s []) (subst (λ b. Nothing (on_body s peer m b)) (sym is) config_nothing) (nothing [])

@@ -3,4 +3,6 @@
 
 mod laws;
 
-pub use laws::{elements_fold, elements_keep_to_the_protocol};
+pub use laws::{
+    elements_fold, elements_keep_to_the_protocol, replaced_lives_change_no_element,
+};

@@ -1,12 +1,13 @@
 -- A control element with the plan of a document speaks clearly, whatever its hub tells it.
-use Rattle.std.proofs.Common.{◌≡◌, ◌==◌, ℕ, zero, suc, Bool, true, false, if◌then◌else◌, List, [], ◌∷◌, ◌++◌, drop, length, map, Option, Some, None, Result, Ok, Err, refl, sym, ap, ◌∙◌, subst}
+use Rattle.std.proofs.Common.{◌≡◌, ◌<◌, ◌^◌, arith, ◌==◌, ℕ, zero, suc, Bool, true, false, if◌then◌else◌, List, [], ◌∷◌, ◌++◌, drop, length, map, Option, Some, None, Result, Ok, Err, refl, sym, ap, ◌∙◌, subst}
 use Rattle.std.specs.List.{AllByRecursion}
 use Rattle.fc_base.specs.Ids.{Txn}
 use Rattle.fc_path.specs.declared.oper.Select.{Select}
 use Rattle.fc_hub.specs.declared.event.Act.TheVariants as act
 use Rattle.fc_hub.specs.declared.event.HubEvent.{HubEvent}
 use Rattle.fc_hub.specs.declared.event.HubEvent.TheVariants as event
-use Rattle.fc_msg.specs.Messages.{canonical, message_fits}
+use Rattle.fc_msg.specs.Messages.{IsProper, canonical, message_fits}
+use Rattle.fc_wellformed.proofs.Sizes.{setup_response_fits}
 use Rattle.fc_msg.specs.Reading.{message_in}
 use Rattle.fc_msg.specs.declared.message.Message.{Message}
 use Rattle.fc_text.specs.TextPlaces.{TextPlace}
@@ -33,10 +34,10 @@ use Rattle.fc_jobs.specs.declared.sending.CeOut.{CeOut}
 use Rattle.fc_master.specs.declared.input.CeIn.{CeIn}
 use Rattle.fc_master.specs.declared.input.CeIn.TheVariants.{Arrived, Moment}
 use Rattle.fc_peers.specs.Acting.{sending}
-use Rattle.fc_control.specs.ControlNode.{ControlState, Heard, NodeState, Turn, and_then, arrives, begins_all, begins_by, begins_next, begins_one, by_message, come, comes, element_of, first_control, first_node, forgets_by, forgets_last, gives_up_all, gives_up_by, gives_up_come, gives_up_one, goes_on, has_ended, hears, is_refused, is_refused_by, may_forget, move, node_after, node_step, number_of, on_bytes_of, on_event, on_opened, passes, peer_of, refusal_of, refusing, sent, takes, tells_to_forget, turn, unless_ended}
+use Rattle.fc_control.specs.ControlNode.{ControlState, Heard, NodeState, Turn, and_then, arrives, begins_all, begins_by, begins_next, begins_one, by_message, come, comes, element_of, first_control, first_node, forgets_by, forgets_last, gives_up_all, gives_up_by, gives_up_come, gives_up_one, goes_on, has_ended, hears, is_refused, is_refused_by, may_forget, move, node_after, node_step, number_of, on_bytes_of, on_event, on_opened, passes, peer_of, refusal_of, refused_setup, refusing, sent, takes, tells_to_forget, turn, unless_ended}
 use Rattle.fc_peers.specs.Streams.{frames, rest}
 use Rattle.std.specs.FinMap.{get}
-use Rattle.fc_wellformed.specs.WellFormed.{AreWellFormed, HasChanges, IsChange, KeepsChanges, SpeaksClearly, all_sent}
+use Rattle.fc_wellformed.specs.WellFormed.{AreWellFormed, IsClear, TxnHolds, IsWellFormed, HasChanges, IsChange, KeepsChanges, SpeaksClearly, all_sent}
 use Rattle.fc_wellformed.proofs.Keeping.{either}
 use Rattle.fc_wellformed.proofs.Said.{begin_clear, first_clear, forget_clear, give_up_clear, step_clear}
 
@@ -77,9 +78,6 @@ scoped_hold : (ps : List (ℕ × List (List Select))) → AllByRecursion PartHol
 scoped_hold [] h = tt
 scoped_hold (p ∷ ps) h = (h.0, scoped_hold ps h.1)
 
-abbrev TxnHolds : PlanTxn → Type 0
-TxnHolds t = AllByRecursion HasChanges (parts_of t)
-
 txn_holds : (t : TransactionTable) (x : PlanTxn) → transaction_of t ≡ Ok x → TxnHolds x
 txn_holds t x e =
     let own = part_holds t.changes x.parts (changes_in_order t x e).1 in
@@ -92,19 +90,18 @@ planned_hold bytes plan e =
 
 -- ---- a control element that speaks clearly, with a plan that does
 
-record IsClear (n : ControlState) : Type 0 where
-  says : SpeaksClearly n.life n.core
-  plan : AllByRecursion TxnHolds n.plan
-
 then_clear : (t : Turn) (f : ControlState → Turn) → IsClear t.state → ((n : ControlState) → IsClear n → IsClear (f n).state) → IsClear (and_then t f).state
 then_clear t f clear more = more t.state clear
 
-takes_clear : (i : CeIn) (n : ControlState) → IsClear n → IsClear (takes i n).state
+pub takes_clear : (i : CeIn) (n : ControlState) → IsClear n → IsClear (takes i n).state
 takes_clear i n clear = record { says = (step_clear n.life (number_of n) n.core i clear.says).0; plan = clear.plan }
 
 gives_by_clear : (r : Option Refusal) (x : Txn) (n : ControlState) → IsClear n → IsClear (gives_up_by r n (finish (number_of n) (gives_up n.core x))).state
 gives_by_clear (Some r) x n clear = clear
 gives_by_clear None x n clear = record { says = (give_up_clear n.life (number_of n) n.core x clear.says).0; plan = clear.plan }
+
+pub gives_one_clear : (x : Txn) (n : ControlState) → IsClear n → IsClear (gives_up_one x n).state
+gives_one_clear x n clear = gives_by_clear (give_up_refusal n.core x) x n clear
 
 gives_all_clear : (xs : List Txn) (n : ControlState) → IsClear n → IsClear (gives_up_all xs n).state
 gives_all_clear [] n clear = clear
@@ -115,7 +112,7 @@ not_refused (Some fault) r e = cc
 not_refused None (Some refusal) e = cc
 not_refused None None e = (refl, refl)
 
-begins_one_clear : (t : PlanTxn) (n : ControlState) → is_refused (parts_of t) n ≡ false → TxnHolds t → IsClear n → IsClear (begins_one (parts_of t) n).state
+pub begins_one_clear : (t : PlanTxn) (n : ControlState) → is_refused (parts_of t) n ≡ false → TxnHolds t → IsClear n → IsClear (begins_one (parts_of t) n).state
 begins_one_clear t n e holds clear =
     let (whole, free) = not_refused (plan_fault (parts_of t)) (refusal_of (parts_of t) n) e in
     record { says = (begin_clear n.life (number_of n) n.core (parts_of t) holds whole free clear.says).0; plan = clear.plan }
@@ -138,6 +135,9 @@ forgets_by_clear : (r : Option Refusal) (n : ControlState) → IsClear n → IsC
 forgets_by_clear (Some r) n clear = clear
 forgets_by_clear None n clear = record { says = (forget_clear n.life (number_of n) n.core clear.says).0; plan = clear.plan }
 
+pub forgets_clear : (n : ControlState) → IsClear n → IsClear (tells_to_forget n).state
+forgets_clear n clear = forgets_by_clear (forget_refusal n.core) n clear
+
 if_clear : (b : Bool) (one other : Turn) → IsClear one.state → IsClear other.state → IsClear (if b then one else other).state
 if_clear true one other h k = h
 if_clear false one other h k = k
@@ -151,12 +151,12 @@ goes_on_clear n clear = forgets_last_clear (begins_next n).state (begins_all_cle
 arrives_clear : (p : ℕ) (m : Message) (n : ControlState) → IsClear n → IsClear (arrives p m n).state
 arrives_clear p m n clear = goes_on_clear (takes (Arrived p m) n).state (takes_clear (Arrived p m) n clear)
 
-passes_clear : (now : ℕ) (n : ControlState) → IsClear n → IsClear (passes now n).state
+pub passes_clear : (now : ℕ) (n : ControlState) → IsClear n → IsClear (passes now n).state
 passes_clear now n clear =
     let taken = takes (Moment now) n in
     goes_on_clear (gives_up_come now taken.state).state (gives_all_clear (come now taken.state.plan taken.state.begun) taken.state (takes_clear (Moment now) n clear))
 
-comes_clear : (peer p : ℕ) (m : Message) (n : ControlState) → IsClear n → IsClear (comes peer p m n).state
+pub comes_clear : (peer p : ℕ) (m : Message) (n : ControlState) → IsClear n → IsClear (comes peer p m n).state
 comes_clear peer p m n clear = if_clear (m.source == p) (arrives p m n) (turn n (refusing n.ce peer m m.body)) (arrives_clear p m n clear) clear
 
 unless_clear : (b : Bool) (t : Turn) (later : ControlState → Heard) → IsClear t.state → ((n : ControlState) → IsClear n → IsClear (later n).state) → IsClear (unless_ended b t later).state
@@ -210,3 +210,11 @@ pub whole_sent : (elements : List ℕ) (outs : List CeOut) → AreWellFormed out
 whole_sent elements [] good = refl
 whole_sent elements (o ∷ outs) good =
     ap (λ acts. acts ++ sent elements outs) (sends_it o.message (peer_of o.to elements) good.0.fits) ∙ ap (λ acts. act.Sent (peer_of o.to elements) (canonical o.message) ∷ acts) (whole_sent elements outs good.1)
+
+-- ---- the node's own refusal of an association
+
+pub refusal_good : (ce : ℕ) (m : Message) → IsWellFormed (refused_setup ce m)
+refusal_good ce m = record { flags = (omega arith, omega arith, omega arith, omega arith); body = omega arith; fits = setup_response_fits (refused_setup ce m) 1 refl }
+
+pub well_formed_is_proper : (m : Message) → IsWellFormed m → m.source < 2 ^ 32 → m.dest < 2 ^ 32 → m.corr < 2 ^ 64 → IsProper m
+well_formed_is_proper m good source dest corr = record { source = source; dest = dest; correlator = corr; flags = good.flags; body = good.body }

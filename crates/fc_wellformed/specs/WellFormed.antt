@@ -1,5 +1,6 @@
--- Messages that can be encoded, and that a receiver reads as what they are (RFC 5810, sections 6.1 and 7): the flags fit their bits, the selects are
--- ones of the grammar, and each length fits its field. Of what the life of a control element was asked to change this holds from the start.
+-- Messages that can be encoded (RFC 5810, sections 6.1 and 7): the flags fit their bits, the selects are ones of the grammar, and each length fits
+-- its field. Where the IDs and the correlator are within their fields too, which each message of the program has by its type, it is proper, and so
+-- read as what it is. Of what the life of a control element was asked to change this holds from the start.
 use Rattle.std.specs.Prelude.{◌≡◌, ◌++◌, ◌∷◌, [], ℕ, true, List, map, Some, None}
 use Rattle.std.specs.List.{AllByRecursion}
 use Rattle.fc_wire.specs.Flags.{FlagsFit}
@@ -15,7 +16,9 @@ use Rattle.fc_jobs.specs.declared.sending.CeOut.{CeOut}
 use Rattle.fc_protocol.specs.MasterMachine.{Master}
 use Rattle.fc_hub.specs.declared.event.Act.{Act}
 use Rattle.fc_hub.specs.declared.event.Act.TheVariants.{Sent}
-use Rattle.fc_control.specs.ControlNode.{peer_of}
+use Rattle.fc_control.specs.ControlNode.{ControlState, peer_of}
+use Rattle.fc_documents.specs.Parts.{begun as parts_of}
+use Rattle.fc_documents.specs.declared.transaction.PlanTxn.{PlanTxn}
 use Rattle.fc_wellformed.specs.Saying.{MaySpeak}
 
 pub record IsWellFormed (m : Message) : Type 0 where
@@ -39,6 +42,10 @@ pub record KeepsChanges (life : Life) : Type 0 where
   pub plans : AllByRecursion (λ (parts : List Part). AllByRecursion HasChanges parts) life.plans
   pub plains : AllByRecursion (λ (plain : ℕ × List Select). IsChange plain.1) life.plains
 
+-- each part of a transaction of a document changes something by selects of the grammar
+abbrev pub TxnHolds : PlanTxn → Type 0
+TxnHolds t = AllByRecursion HasChanges (parts_of t)
+
 -- a plain change was made at p
 abbrev pub HasPlain : Life → ℕ → Type 0
 HasPlain life p = (selects : List Select) × (found p life.plains ≡ Some selects)
@@ -46,6 +53,11 @@ HasPlain life p = (selects : List Select) × (found p life.plains ≡ Some selec
 -- a master of this life that says nothing but what can be encoded
 abbrev pub SpeaksClearly : Life → Master → Type 0
 SpeaksClearly life m = KeepsChanges life × MaySpeak (HasPlain life) m
+
+-- a control element whose master does, and whose plan changes things so
+pub record IsClear (n : ControlState) : Type 0 where
+  pub says : SpeaksClearly n.life n.core
+  pub plan : AllByRecursion TxnHolds n.plan
 
 -- the same life with one plan more, or with another plain change at p
 abbrev pub with_plan : Life → List Part → Life

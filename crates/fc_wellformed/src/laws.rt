@@ -1,5 +1,5 @@
 // Laws on what a master says, and on what a control element sends.
-ghost use Rattle.std.specs.Prelude.{◌≡◌, ◌++◌, ◌∷◌, [], ℕ, List, Some, None, Ok, map};
+ghost use Rattle.std.specs.Prelude.{◌≡◌, ◌<◌, ◌^◌, false, ◌++◌, ◌∷◌, [], ℕ, List, Some, None, Ok, map};
 ghost use Rattle.std.specs.List.{AllByRecursion};
 ghost use Rattle.fc_base.specs.Ids.{Txn};
 ghost use Rattle.fc_path.specs.declared.oper.Select.{Select};
@@ -17,8 +17,10 @@ ghost use Rattle.fc_jobs.specs.Sending.{spelled};
 ghost use Rattle.fc_jobs.specs.declared.sending.CeOut.{CeOut};
 ghost use Rattle.fc_master.specs.Steps.{said, stepped};
 ghost use Rattle.fc_master.specs.declared.input.CeIn.{CeIn};
-ghost use Rattle.fc_control.specs.ControlNode.{first_node, node_after, sent};
-ghost use Rattle.fc_wellformed.specs.WellFormed.{AreWellFormed, HasChanges, IsChange, KeepsChanges, SpeaksClearly, all_sent, with_plain, with_plan};
+ghost use Rattle.fc_control.specs.ControlNode.{ControlState, begins_one, comes, first_node, gives_up_one, is_refused, node_after, passes, refused_setup, sent, takes, tells_to_forget};
+ghost use Rattle.fc_msg.specs.Messages.{IsProper};
+ghost use Rattle.fc_msg.specs.declared.message.Message.{Message};
+ghost use Rattle.fc_wellformed.specs.WellFormed.{AreWellFormed, HasChanges, IsChange, IsClear, IsWellFormed, KeepsChanges, TxnHolds, SpeaksClearly, all_sent, with_plain, with_plan};
 
 /// A life that was asked to change nothing but changes begins to speak clearly.
 pub fn masters_begin_clear()
@@ -48,6 +50,25 @@ pub fn masters_stay_clear()
 /// Whatever a transaction of a document that is a plan changes, is a change.
 pub fn planned_changes_are_changes()
     ensures { (bytes : List ℕ) (plan : Planned) → plan_of bytes ≡ Ok plan → AllByRecursion (λ (t : PlanTxn). AllByRecursion HasChanges (begun t)) plan.transactions }
+{}
+
+/// Whatever the node of a control element that is clear does with its master, it is clear then: where it gives it an input, gives a transaction up, begins
+/// one that is not refused or tells its elements to forget, and so after each message of a peer and each moment. With what is said of its master at each of
+/// these calls, every message that it says is well formed.
+pub fn turns_stay_clear()
+    ensures input { (i : CeIn) (n : ControlState) → IsClear n → IsClear (takes i n).state }
+    ensures give_up { (x : Txn) (n : ControlState) → IsClear n → IsClear (gives_up_one x n).state }
+    ensures begin { (t : PlanTxn) (n : ControlState) → is_refused (begun t) n ≡ false → TxnHolds t → IsClear n → IsClear (begins_one (begun t) n).state }
+    ensures forget { (n : ControlState) → IsClear n → IsClear (tells_to_forget n).state }
+    ensures message { (peer p : ℕ) (m : Message) (n : ControlState) → IsClear n → IsClear (comes peer p m n).state }
+    ensures moment { (now : ℕ) (n : ControlState) → IsClear n → IsClear (passes now n).state }
+{}
+
+/// What the node itself answers to another sender than its element's is well formed too; and whatever is well formed, and has its IDs and its correlator within
+/// their fields, as each message of the program by its type, is proper.
+pub fn what_is_well_formed_is_proper()
+    ensures refusal { (ce : ℕ) (m : Message) → IsWellFormed (refused_setup ce m) }
+    ensures proper { (m : Message) → IsWellFormed m → m.source < 2 ^ 32 → m.dest < 2 ^ 32 → m.corr < 2 ^ 64 → IsProper m }
 {}
 
 /// A control element with the plan of a document speaks clearly after any events of its hub.
