@@ -1,30 +1,37 @@
 // An element that is told of by messages alone: what comes, and what it sends.
 use crate::library::element;
-use crate::words::{bytes_of, cut};
+use crate::words::{bytes_of, cut, one, select_of, text_of};
 use fc_base::{List, Memory, Octets, push_hex};
 use fc_element::{ElIn, Element, Out};
 use fc_msg::{Message, MsgBody, decode, encode};
-use fc_path::{Body, Oper, OperKind, PathData, Select};
+use fc_path::{Body, OperKind, PathData, Select};
 use fc_wire::Flags;
 use std::alloc::Global;
 use std::test::Fail;
+
+// The bytes of a message.
+fn bytes_in(alloc: Global, message: &Message) -> Result<Vec<u8>, Fail> {
+    let mut bytes = Vec::new(alloc);
+    encode(message, &mut bytes).ok().ok_or("no bytes")?;
+    Ok(bytes)
+}
 
 // The bytes of a message to a peer, with a blank before it.
 fn push_out(text: &mut Vec<u8>, out: &Out) -> Result<(), Fail> {
     let peer = out.peer;
     let digits = format!(in *text.allocator(); " {peer}:")?;
     text.extend_from_slice(digits.as_bytes())?;
-    let mut bytes = Vec::new(*text.allocator());
-    encode(&out.message, &mut bytes).ok().ok_or("no bytes")?;
+    let bytes = bytes_in(*text.allocator(), &out.message)?;
     push_hex(text, &bytes)?;
     Ok(())
 }
 
-fn push_outs(text: &mut Vec<u8>, outs: &[Out]) -> Result<(), Fail> {
+fn text_of_outs(alloc: Global, outs: &[Out]) -> Result<Vec<u8>, Fail> {
+    let mut text = Vec::new(alloc);
     for out in outs {
-        push_out(text, out)?;
+        push_out(&mut text, out)?;
     }
-    Ok(())
+    Ok(text)
 }
 
 // What is sent where a message comes over a peer.
@@ -46,22 +53,29 @@ fn sent(alloc: Global, element: &mut Element, line: &str) -> Result<List<Out>, F
     heard(alloc, element, first.parse::<u32>()?, &bytes)
 }
 
-// Goes through the lines of a case on an element of its own. Gives the first line at which something else is sent, with that. Behind ` =`
-// stands what is sent: each message with a blank before it, its peer and its bytes. A line that begins with `--` says what those below it
-// are about.
+// A line at which something else is sent, with that. Behind ` =` stands what is sent: each message with a blank before it, its peer and its
+// bytes.
+fn wrong(alloc: Global, element: &mut Element, line: &str) -> Result<Option<String>, Fail> {
+    let (come, wanted) = cut(line, " =");
+    let outs = sent(alloc, element, come)?;
+    let text = text_of_outs(alloc, outs.as_slice())?;
+    if text.as_slice() == wanted.as_bytes() {
+        return Ok(None);
+    }
+    let text = text_of(text)?;
+    Ok(Some(format!(in alloc; "{line}: {text}")?))
+}
+
+// Goes through the lines of a case on an element of its own. Gives the first line at which something else is sent. A line that begins with
+// `--` says what those below it are about.
 fn first_wrong(alloc: Global, case: &str) -> Result<Option<String>, Fail> {
     let mut element = element(alloc)?;
     for line in case.split("\n") {
         if line.starts_with("--") {
             continue;
         }
-        let (come, wanted) = cut(line, " =");
-        let outs = sent(alloc, &mut element, come)?;
-        let mut text = Vec::new(alloc);
-        push_outs(&mut text, outs.as_slice())?;
-        if text.as_slice() != wanted.as_bytes() {
-            let text = String::from_utf8(text).ok().ok_or("a text")?;
-            return Ok(Some(format!(in alloc; "{line}: {text}")?));
+        if let Some(wrong) = wrong(alloc, &mut element, line)? {
+            return Ok(Some(wrong));
         }
     }
     Ok(None)
@@ -143,23 +157,18 @@ fn an_element_tells_of_events(rt: HostRuntime) -> Result<(), Fail> {
 const BEGINNING: &str = "from 1 1011000840000001000000020000000000000000000000000010000800000000 =
 from 1 1003001240000001000000020000000000000001C04000001000003000001003000000010002002401100020000000020000005A0000000601130010000000020000000C00000001 = 1:1013001000000002400000010000000000000001000000001000002800001003000000010004001C01100018000000020000005A000000060114000800000000";
 
+// A SET of a name of so many letters.
+fn renaming(alloc: Global, length: usize) -> Result<Select, Memory> {
+    let ids = List::from_slice(alloc, &[3])?;
+    let name = Vec::from_elem(alloc, b'a', length)?;
+    let body = Body::Full(Octets::from_vec(name));
+    let key = None;
+    select_of(alloc, (4099, 1), OperKind::Set, PathData { ids, key, body })
+}
+
 // A SET of a name of so many letters, for which no response is wanted.
 fn naming(alloc: Global, length: usize) -> Result<Message, Memory> {
-    let name = Vec::from_elem(alloc, b'a', length)?;
-    let mut paths = List::new(alloc);
-    paths.push(PathData {
-        ids: List::from_slice(alloc, &[3])?,
-        key: None,
-        body: Body::Full(Octets::from_vec(name)),
-    })?;
-    let mut opers = List::new(alloc);
-    opers.push(Oper::Paths(OperKind::Set, paths))?;
-    let mut selects = List::new(alloc);
-    selects.push(Select {
-        class: 4099,
-        instance: 1,
-        opers,
-    })?;
+    let selects = one(alloc, renaming(alloc, length)?)?;
     Ok(Message {
         source: 0x4000_0001,
         dest: 2,
@@ -175,17 +184,20 @@ fn naming(alloc: Global, length: usize) -> Result<Message, Memory> {
     })
 }
 
-// How many messages are sent once the name has so many letters.
-fn told_of(alloc: Global, length: usize) -> Result<usize, Fail> {
+// The element once its control element has registered that the name has changed.
+fn registered(alloc: Global) -> Result<Element, Fail> {
     let mut element = element(alloc)?;
     for line in BEGINNING.split("\n") {
         let (come, _) = cut(line, " =");
         sent(alloc, &mut element, come)?;
     }
-    let mut bytes = Vec::new(alloc);
-    encode(&naming(alloc, length)?, &mut bytes)
-        .ok()
-        .ok_or("no bytes")?;
+    Ok(element)
+}
+
+// How many messages are sent once the name has so many letters.
+fn told_of(alloc: Global, length: usize) -> Result<usize, Fail> {
+    let bytes = bytes_in(alloc, &naming(alloc, length)?)?;
+    let mut element = registered(alloc)?;
     let outs = heard(alloc, &mut element, 1, &bytes)?;
     Ok(outs.len())
 }

@@ -37,19 +37,35 @@ fn spot(alloc: Global, instance: u32, ids: &[u32]) -> Result<Spot, Memory> {
     })
 }
 
-fn registered(alloc: Global, store: &Store) -> Result<Subscriptions, Fail> {
-    let mut subscriptions = Subscriptions::new(alloc);
-    let mut ilvs = Vec::new(alloc);
-    ilvs.push(Ilv {
+// The property by which an event is registered.
+fn registering(alloc: Global) -> Result<Ilv, Memory> {
+    Ok(Ilv {
         ident: 2,
         value: Octets::from_slice(alloc, &[0, 0, 0, 1])?,
-    })?;
+    })
+}
+
+// Registers the event of an instance.
+fn register(
+    alloc: Global,
+    store: &Store,
+    subscriptions: &mut Subscriptions,
+    instance: u32,
+    ilvs: &[Ilv],
+) -> Result<(), Fail> {
+    let event = spot(alloc, instance, &[9, 1])?;
+    subscriptions
+        .set_prop(store, &event, ilvs)
+        .ok()
+        .ok_or("registered")?;
+    Ok(())
+}
+
+fn registered(alloc: Global, store: &Store) -> Result<Subscriptions, Fail> {
+    let ilvs = [registering(alloc)?];
+    let mut subscriptions = Subscriptions::new(alloc);
     for id in 1..=INSTANCES {
-        let event = spot(alloc, INSTANCES + 1 - id, &[9, 1])?;
-        subscriptions
-            .set_prop(store, &event, &ilvs)
-            .ok()
-            .ok_or("registered")?;
+        register(alloc, store, &mut subscriptions, INSTANCES + 1 - id, &ilvs)?;
     }
     Ok(subscriptions)
 }
@@ -62,17 +78,25 @@ fn change_all(alloc: Global, store: &mut Store) -> Result<(), Fail> {
     Ok(())
 }
 
+// How many events are told, and of which instance the one at this place.
+fn told(
+    store: &Store,
+    subscriptions: &mut Subscriptions,
+    place: usize,
+) -> Result<(usize, Option<u32>), Memory> {
+    let notices = subscriptions.reports(store)?;
+    let instance = notices.get(place).map(|notice| notice.place.instance);
+    Ok((notices.len(), instance))
+}
+
 #[test]
 fn a_thousand_events_are_told_at_once(rt: HostRuntime) -> Result<(), Fail> {
     let alloc = rt.alloc();
     let mut store = opened(alloc)?;
     let mut subscriptions = registered(alloc, &store)?;
     change_all(alloc, &mut store)?;
-    let notices = subscriptions.reports(&store)?;
-    assert_eq!(rt; notices.len(), 1000);
-    let last = notices.get(999).ok_or("a notice")?;
-    assert_eq!(rt; last.place.instance, 1000);
-    let again = subscriptions.reports(&store)?;
-    assert_eq!(rt; again.len(), 0);
+    for wanted in [(1000, Some(1000)), (0, None)] {
+        assert_eq!(rt; told(&store, &mut subscriptions, 999)?, wanted);
+    }
     Ok(())
 }

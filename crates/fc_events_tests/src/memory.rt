@@ -35,17 +35,20 @@ fn report(alloc: Global, element: &Element) -> Result<Vec<u8>, Fail> {
     Ok(text)
 }
 
+// Whether the element takes a message, and does not want memory for it.
+fn arrives(alloc: Global, element: &mut Element, digits: &str) -> Result<bool, Fail> {
+    let message = message(alloc, digits)?;
+    Ok(element.step(ElIn::Arrived(1, message)).is_ok())
+}
+
 // Whether the element takes a message at once, or has not changed where it wanted memory, and takes it then.
 fn is_taken(alloc: Global, element: &mut Element, digits: &str) -> Result<bool, Fail> {
     let before = report(alloc, element)?;
-    let first = message(alloc, digits)?;
-    let again = message(alloc, digits)?;
-    if element.step(ElIn::Arrived(1, first)).is_ok() {
+    if arrives(alloc, element, digits)? {
         return Ok(true);
     }
     let after = report(alloc, element)?;
-    let _ = element.step(ElIn::Arrived(1, again))?;
-    Ok(before.as_slice() == after.as_slice())
+    Ok(arrives(alloc, element, digits)? && before.as_slice() == after.as_slice())
 }
 
 #[test]

@@ -1,27 +1,34 @@
 // Tables of SET-PROPs, GET-PROPs and changes, one after the other, and what each of them answers and tells.
 use crate::trial::Trial;
-use crate::words::cut;
+use crate::words::{cut, text_of};
 use std::alloc::Global;
 use std::test::Fail;
 
-// Goes through the lines of a case. Gives the first line that is answered otherwise, with its answer. A line is an operation, its spot and
-// its bytes or properties, and behind ` = ` the answer; one that begins with `--` says what those below it are about.
+// A line that is answered otherwise, with its answer. It is an operation, its spot and its bytes or properties, and behind ` = ` the answer.
 //
 // `prop`, `put` and `take` answer a code, and behind it what the evaluation afterwards tells, each event with its value; `quiet` puts without
 // an evaluation, and `but` is one of all events outside an instance. `props` answers a code and the properties; `all`, `until` and `each` are
 // SET-PROPs in a mode, with a code for each; `down` is what a control element is told of the primary one; `is` says whether an event is
 // registered, and `copy` puts a copy of all that is registered in its place.
+fn wrong(alloc: Global, trial: &mut Trial, line: &str) -> Result<Option<String>, Fail> {
+    let (asked, wanted) = cut(line, " = ");
+    let answer = trial.answer(asked)?;
+    if answer.as_slice() == wanted.as_bytes() {
+        return Ok(None);
+    }
+    let text = text_of(answer)?;
+    Ok(Some(format!(in alloc; "{line}: {text}")?))
+}
+
+// Gives the first line of a case that is answered otherwise. A line that begins with `--` says what those below it are about.
 fn first_wrong(alloc: Global, case: &str) -> Result<Option<String>, Fail> {
     let mut trial = Trial::new(alloc)?;
     for line in case.split("\n") {
         if line.starts_with("--") {
             continue;
         }
-        let (asked, wanted) = cut(line, " = ");
-        let answer = trial.answer(asked)?;
-        if answer.as_slice() != wanted.as_bytes() {
-            let text = String::from_utf8(answer).ok().ok_or("a text")?;
-            return Ok(Some(format!(in alloc; "{line}: {text}")?));
+        if let Some(wrong) = wrong(alloc, &mut trial, line)? {
+            return Ok(Some(wrong));
         }
     }
     Ok(None)

@@ -177,34 +177,64 @@ impl Trial {
         Ok(())
     }
 
-    fn push_answer(&mut self, text: &mut Vec<u8>, name: &str, words: &str) -> Result<(), Fail> {
-        let (word, words) = cut(words, " ");
-        let place = spot(self.alloc, word)?;
+    // What is told of the properties of a place.
+    fn push_properties(&self, text: &mut Vec<u8>, place: &Spot) -> Result<(), Memory> {
+        let answer = self.subscriptions.get_prop(&self.store, &self.live, place);
+        push_props(text, &answer)
+    }
+
+    // The code of a change of a value without an evaluation behind it.
+    fn push_quiet(&mut self, text: &mut Vec<u8>, place: &Spot, words: &str) -> Result<(), Fail> {
+        let answer = self.changed("put", place, words)?;
+        push_told(text, &answer)?;
+        Ok(())
+    }
+
+    // What a line about a place answers.
+    fn push_of_place(
+        &mut self,
+        text: &mut Vec<u8>,
+        name: &str,
+        place: &Spot,
+        words: &str,
+    ) -> Result<(), Fail> {
         match name {
-            "props" => {
-                let answer = self.subscriptions.get_prop(&self.store, &self.live, &place);
-                push_props(text, &answer)?;
-            }
-            "is" => self.push_registered(text, &place)?,
-            "but" => self.push_others(text, &place)?,
-            "quiet" => push_told(text, &self.changed("put", &place, words)?)?,
-            _ => self.push_change(text, name, &place, words)?,
+            "props" => self.push_properties(text, place)?,
+            "is" => self.push_registered(text, place)?,
+            "but" => self.push_others(text, place)?,
+            "quiet" => self.push_quiet(text, place, words)?,
+            _ => self.push_change(text, name, place, words)?,
         }
         Ok(())
     }
 
+    fn push_answer(&mut self, text: &mut Vec<u8>, name: &str, words: &str) -> Result<(), Fail> {
+        let (word, words) = cut(words, " ");
+        let place = spot(self.alloc, word)?;
+        self.push_of_place(text, name, &place, words)
+    }
+
+    fn copy(&mut self) -> Result<(), Memory> {
+        self.subscriptions = self.subscriptions.copy()?;
+        Ok(())
+    }
+
     // What a line answers, by its first word.
-    pub(crate) fn answer(&mut self, line: &str) -> Result<Vec<u8>, Fail> {
+    fn push_line(&mut self, text: &mut Vec<u8>, line: &str) -> Result<(), Fail> {
         let (name, words) = cut(line, " ");
-        let mut text = Vec::new(self.alloc);
         match name {
-            "all" => self.push_codes(&mut text, name, words)?,
-            "until" => self.push_codes(&mut text, name, words)?,
-            "each" => self.push_codes(&mut text, name, words)?,
-            "down" => self.push_down(&mut text, words)?,
-            "copy" => self.subscriptions = self.subscriptions.copy()?,
-            _ => self.push_answer(&mut text, name, words)?,
+            "all" | "until" | "each" => self.push_codes(text, name, words)?,
+            "down" => self.push_down(text, words)?,
+            "copy" => self.copy()?,
+            _ => self.push_answer(text, name, words)?,
         }
+        Ok(())
+    }
+
+    // The answer of a line.
+    pub(crate) fn answer(&mut self, line: &str) -> Result<Vec<u8>, Fail> {
+        let mut text = Vec::new(self.alloc);
+        self.push_line(&mut text, line)?;
         Ok(text)
     }
 }

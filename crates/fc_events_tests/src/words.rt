@@ -44,19 +44,31 @@ fn step(alloc: Global, word: &str) -> Result<Step, Fail> {
     Ok(Step::Key(id, Octets::from_vec(bytes_of(alloc, digits)?)))
 }
 
+fn steps(alloc: Global, words: &str) -> Result<List<Step>, Fail> {
+    let mut steps = List::new(alloc);
+    for word in words.split("/") {
+        if !word.is_empty() {
+            steps.push(step(alloc, word)?)?;
+        }
+    }
+    Ok(steps)
+}
+
 pub(crate) fn spot(alloc: Global, word: &str) -> Result<Spot, Fail> {
     let (class, rest) = cut(word, "/");
     let (instance, rest) = cut(rest, "/");
-    let mut steps = List::new(alloc);
-    for part in rest.split("/") {
-        if !part.is_empty() {
-            steps.push(step(alloc, part)?)?;
-        }
-    }
     Ok(Spot {
         class: class.parse::<u32>()?,
         instance: instance.parse::<u32>()?,
-        steps,
+        steps: steps(alloc, rest)?,
+    })
+}
+
+fn ilv(alloc: Global, word: &str) -> Result<Ilv, Fail> {
+    let (ident, digits) = cut(word, ":");
+    Ok(Ilv {
+        ident: ident.parse::<u32>()?,
+        value: Octets::from_vec(bytes_of(alloc, digits)?),
     })
 }
 
@@ -64,13 +76,14 @@ pub(crate) fn spot(alloc: Global, word: &str) -> Result<Spot, Fail> {
 pub(crate) fn ilvs(alloc: Global, words: &str) -> Result<Vec<Ilv>, Fail> {
     let mut ilvs = Vec::new(alloc);
     for word in words.split(" ") {
-        let (ident, digits) = cut(word, ":");
-        ilvs.push(Ilv {
-            ident: ident.parse::<u32>()?,
-            value: Octets::from_vec(bytes_of(alloc, digits)?),
-        })?;
+        ilvs.push(ilv(alloc, word)?)?;
     }
     Ok(ilvs)
+}
+
+// Bytes that are a text.
+pub(crate) fn text_of(bytes: Vec<u8>) -> Result<String, Fail> {
+    Ok(String::from_utf8(bytes).ok().ok_or("a text")?)
 }
 
 // The execution mode that a word names.
@@ -92,24 +105,45 @@ fn ids_of(alloc: Global, spot: &Spot) -> Result<List<u32>, Memory> {
     Ok(ids)
 }
 
+// A list of one item.
+pub(crate) fn one<T: Drop>(alloc: Global, item: T) -> Result<List<T>, Memory> {
+    let mut items = List::new(alloc);
+    items.push(item)?;
+    Ok(items)
+}
+
+// A select of one operation on one path, at an instance of a class.
+pub(crate) fn select_of(
+    alloc: Global,
+    (class, instance): (u32, u32),
+    kind: OperKind,
+    path: PathData,
+) -> Result<Select, Memory> {
+    let paths = one(alloc, path)?;
+    Ok(Select {
+        class,
+        instance,
+        opers: one(alloc, Oper::Paths(kind, paths))?,
+    })
+}
+
+// The path of a SET-PROP.
+fn setting(alloc: Global, spot: &Spot, words: &str) -> Result<PathData, Fail> {
+    let ids = ids_of(alloc, spot)?;
+    Ok(PathData {
+        ids,
+        key: None,
+        body: Body::Sparse(List::from_vec(ilvs(alloc, words)?)),
+    })
+}
+
 // A select of one SET-PROP.
 fn select(alloc: Global, words: &str) -> Result<Select, Fail> {
     let (word, words) = cut(words, " ");
     let spot = spot(alloc, word)?;
-    let ilvs = ilvs(alloc, words)?;
-    let mut paths = List::new(alloc);
-    paths.push(PathData {
-        ids: ids_of(alloc, &spot)?,
-        key: None,
-        body: Body::Sparse(List::from_vec(ilvs)),
-    })?;
-    let mut opers = List::new(alloc);
-    opers.push(Oper::Paths(OperKind::SetProp, paths))?;
-    Ok(Select {
-        class: spot.class,
-        instance: spot.instance,
-        opers,
-    })
+    let path = setting(alloc, &spot, words)?;
+    let place = (spot.class, spot.instance);
+    Ok(select_of(alloc, place, OperKind::SetProp, path)?)
 }
 
 // SET-PROPs, each its spot and its properties, with ` + ` between them.
