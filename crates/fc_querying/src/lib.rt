@@ -1,0 +1,6 @@
+//! Laws that bind what an element answers to the two questions of a master to what the protocol of transactions says.
+#![tactic(auto)]
+
+mod laws;
+
+pub use laws::{answers_are_read, questions_are_answered};
