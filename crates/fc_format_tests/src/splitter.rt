@@ -42,17 +42,17 @@ fn a_splitter_lends_the_frames_of_the_stream(rt: HostRuntime) -> Result<(), Fail
     Ok(())
 }
 
-// A splitter that read as many bytes of two heartbeats as it is to read, which come in pieces of at most 40.
-fn fed_from(alloc: Global, most: usize) -> Result<(Splitter, usize), Fail> {
+// A splitter that was to read at most 30 bytes of two heartbeats, which come in pieces of at most 40, and how many it read.
+fn fed_from(alloc: Global) -> Result<(Splitter, usize), Fail> {
     let mut input = SureSource::new(beats(alloc)?, 40);
     let mut splitter = Splitter::new(alloc);
-    let given = splitter.feed_from(&mut input, most).ok().ok_or("bytes")?;
+    let given = splitter.feed_from(&mut input, 30).ok().ok_or("bytes")?;
     Ok((splitter, given))
 }
 
 #[test]
 fn a_splitter_reads_no_more_than_it_is_to_read(rt: HostRuntime) -> Result<(), Fail> {
-    let (mut splitter, given) = fed_from(rt.alloc(), 30)?;
+    let (mut splitter, given) = fed_from(rt.alloc())?;
     assert_eq!(rt; (given, splitter.rest().len()), (30, 30));
     assert_eq!(rt; splitter.next(), Some(BEAT.as_slice()));
     assert_eq!(rt; splitter.rest(), &BEAT[..6]);
