@@ -1,7 +1,10 @@
 pub mod Answered
 pub mod Filling
 pub mod Finding
+pub mod Lives
 pub mod Records
 pub mod Sent
 pub mod Sizes
+pub mod Staying
+pub mod Telling
 pub mod Values

@@ -3,4 +3,4 @@
 
 mod laws;
 
-pub use laws::{answers_are_read, questions_are_answered};
+pub use laws::{answers_are_read, elements_can_be_asked, questions_are_answered};
