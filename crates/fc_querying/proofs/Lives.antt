@@ -1,5 +1,5 @@
 -- An element can be asked after any list of inputs.
-use Rattle.std.proofs.Common.{◌≡◌, ℕ, ◌^◌, ◌<◌, ◌==◌, not, ◌/◌, ◌%◌, ◌&&◌, nat_lt, Bool, true, false, find, position, List, [], ◌∷◌, ◌++◌, Option, Some, refl, sym, ap, ◌∙◌, subst, arith, eqb-true}
+use Rattle.std.proofs.Common.{◌≡◌, ℕ, ◌^◌, ◌<◌, ◌==◌, not, ◌/◌, ◌%◌, ◌&&◌, nat_lt, Bool, true, false, find, position, List, [], ◌∷◌, ◌++◌, refl, sym, ap, ◌∙◌, subst, arith, eqb-true}
 use Rattle.std.specs.List.{AllByRecursion, list_all}
 use Rattle.fc_abiding.proofs.Naming.{named_stay, new_named}
 use Rattle.fc_abiding.specs.Abiding.{IsNamed}
@@ -12,7 +12,6 @@ use Rattle.fc_element.specs.ElementState as elements
 use Rattle.fc_element.specs.Runs.{taken}
 use Rattle.fc_element.specs.declared.input.ElIn.{ElIn}
 use Rattle.fc_exec.specs.declared.operations.Operation.{Operation}
-use Rattle.fc_lfbs.specs.BuiltIns as built_ins
 use Rattle.fc_lives.proofs.Lives.{all_came, heard, life_is}
 use Rattle.fc_lives.specs.Lives.{life_after}
 use Rattle.fc_machine.specs.Trace.{Fact}

@@ -1,8 +1,6 @@
 -- The questions of a master are answered by one message.
 use Rattle.std.proofs.Common.{◌≡◌, ℕ, ◌==◌, true, List, [], ◌∷◌, Option, None, refl, ap, ap₂, ◌∙◌, arith}
 use Rattle.fc_asks.specs.Requests.{request_of}
-use Rattle.fc_asks.specs.declared.life.Life.{Life}
-use Rattle.fc_base.specs.Ids.{Txn}
 use Rattle.fc_element.specs.ElementMachine.{answer_with, id_of, step}
 use Rattle.fc_element.specs.ElementState.{ElementState}
 use Rattle.fc_element.specs.declared.input.ElIn.TheVariants.{Arrived}
@@ -20,10 +18,9 @@ use Rattle.fc_path.specs.declared.path.PathData.{PathData}
 use Rattle.fc_performing.specs.Sending.{out}
 use Rattle.fc_plans.specs.Components as components
 use Rattle.fc_plans.specs.Mastership.{on_mastership, path, subject_bytes}
-use Rattle.fc_protocol.specs.Messages.{Ask, Ask_record, Holds, Tells, stamp}
-use Rattle.fc_protocol.specs.Records.{listed, seen, state_of}
+use Rattle.fc_protocol.specs.Messages.{Ask, Ask_record, stamp}
 use Rattle.fc_reply.proofs.Filled.{nothing_result, path_results_is}
-use Rattle.fc_querying.specs.Asking.{IsAnswered, IsAskable, IsAssociated, IsTxn, answer_to, gets, held_query, record_query}
+use Rattle.fc_querying.specs.Asking.{AnswersHeld, AnswersRecords, IsAskable, IsAssociated, answer_to, gets, held_query, record_query}
 use Rattle.fc_querying.proofs.Answered.{held_answered, record_answered, record_key}
 use Rattle.fc_querying.proofs.Filling.{asks}
 use Rattle.fc_querying.proofs.Sizes.{Few, key_few, no_key_few, refused_few, response_small}
@@ -58,9 +55,8 @@ sent s peer m selects ce a own fits =
     let own_id : (m.dest == id_of s) ≡ true = ap (λ (n : ℕ). n == id_of s) own.dest ∙ itself (id_of s) in
     (rw (own.body, own.source, a.control, a.associated, fits, own_id) refl, rw (own.body, own.source, a.control, a.associated) refl)
 
-pub held_sent : (s : ElementState) (peer corr : ℕ) (life : Life) → IsAskable s.transactions → IsAssociated s life.ce
-    → IsAnswered s peer (request_of life (id_of s) corr Ask) Ask (Holds (stamp corr) s.transactions.epoch (listed s.transactions.ledger.records.entries))
-held_sent s peer corr life is a =
+pub held_sent : (s : ElementState) → IsAskable s.transactions → AnswersHeld s
+held_sent s is peer corr life a =
     let t = sent s peer (request_of life (id_of s) corr Ask) held_query life.ce a (record { source = refl; dest = refl; body = refl }) (fits_blank components.held None (no_key_few.0, omega (arith, no_key_few.1))) in record {
       selects = answer_to s.transactions held_query;
       outs = t.0;
@@ -69,13 +65,12 @@ held_sent s peer corr life is a =
       said = refl;
     }
 
-pub record_sent : (s : ElementState) (peer corr : ℕ) (life : Life) (x : Txn) → IsAskable s.transactions → IsAssociated s life.ce → IsTxn x
-    → IsAnswered s peer (request_of life (id_of s) corr (Ask_record x)) (Ask_record x) (Tells (stamp corr) x s.transactions.epoch (seen (state_of x s.transactions.ledger.records.entries)))
-record_sent s peer corr life x is a t =
-    let sends = sent s peer (request_of life (id_of s) corr (Ask_record x)) (record_query x) life.ce a (record { source = refl; dest = refl; body = refl }) (fits_blank components.transactions (record_key x) (key_few (subject_bytes x) refl)) in record {
+pub record_sent : (s : ElementState) → IsAskable s.transactions → AnswersRecords s
+record_sent s is peer corr life x a named =
+    let t = sent s peer (request_of life (id_of s) corr (Ask_record x)) (record_query x) life.ce a (record { source = refl; dest = refl; body = refl }) (fits_blank components.transactions (record_key x) (key_few (subject_bytes x) refl)) in record {
       selects = answer_to s.transactions (record_query x);
-      outs = sends.0;
-      stays = sends.1;
-      read = record_answered s.transactions x (stamp corr) is t;
+      outs = t.0;
+      stays = t.1;
+      read = record_answered s.transactions x (stamp corr) is named;
       said = refl;
     }

@@ -1,5 +1,5 @@
 -- No Config changes the library or the instances of the store.
-use Rattle.std.proofs.Common.{◌≡◌, ℕ, ◌==◌, not, Bool, true, false, if◌then◌else◌, List, [], ◌∷◌, Option, Some, None, refl, ap, ◌∙◌}
+use Rattle.std.proofs.Common.{◌≡◌, ℕ, ◌==◌, not, Bool, true, false, if◌then◌else◌, List, [], ◌∷◌, Option, Some, None, refl, ◌∙◌}
 use Rattle.fc_base.specs.Ids.{Txn}
 use Rattle.fc_events.specs.declared.subscriptions.Notice.{Notice}
 use Rattle.fc_events.specs.Setting.{exec_outcome}
@@ -8,16 +8,15 @@ use Rattle.fc_exec.specs.Operations.{applied, executed, is_inside, operations, p
 use Rattle.fc_exec.specs.declared.operations.Operation.{Operation}
 use Rattle.fc_exec.proofs.Applying.{instances_stay}
 use Rattle.fc_holding.specs.Held.{scope_of, state_at, waits}
-use Rattle.fc_holding.specs.Holdings.{all_undone, found, is_started, over_held, settled_with, undone, undone_one}
+use Rattle.fc_holding.specs.Holdings.{all_undone, found, is_started, over_held, undone_one}
 use Rattle.fc_holding.specs.declared.holding.Holding.{Holding}
 use Rattle.fc_machine.specs.ElementState.{first_code}
 use Rattle.fc_machine.specs.Transactions.{is_completed}
-use Rattle.fc_modes.specs.Modes.{Outcome}
 use Rattle.fc_modes.specs.declared.mode.Mode.{Mode}
 use Rattle.fc_modes.specs.declared.mode.Mode.TheVariants.{AllOrNone}
 use Rattle.fc_msg.specs.declared.message.Message.{Message}
 use Rattle.fc_path.specs.declared.oper.Select.{Select}
-use Rattle.fc_performing.specs.Performing.{are_props, configured, done_by, mode_of, performed, registered}
+use Rattle.fc_performing.specs.Performing.{are_props, configured, mode_of, performed, registered}
 use Rattle.fc_performing.proofs.Undoing.{library_stays, outcome_keeps}
 use Rattle.fc_phases.specs.Asking.{txn_of}
 use Rattle.fc_phases.specs.Shapes.{rest_of}
@@ -32,7 +31,7 @@ use Rattle.fc_protocol.specs.declared.verdict.Verdict.TheVariants.{Claim as Clai
 use Rattle.fc_store.specs.Stores.{Stored, Tree, gone_back, mark_of, over_mark, with_mark, without_mark}
 use Rattle.fc_transactions.specs.Order as order
 use Rattle.fc_transactions.specs.Order.{asked_of, by_verdict, judged}
-use Rattle.fc_transactions.specs.Phases.{Did, abort_turn, aborted_by, acts, all_get, both_codes, continued, executes, extends, extends_failed, is_admitted, is_held_in, marked, opens, opens_failed, refuses, rest_outcome, settles, start_turn_by, started, turns}
+use Rattle.fc_transactions.specs.Phases.{abort_turn, aborted_by, acts, all_get, both_codes, continued, executes, extends, extends_failed, is_admitted, is_held_in, marked, opens, opens_failed, refuses, rest_outcome, settles, start_turn_by, started, turns}
 use Rattle.fc_transactions.specs.State.{TransactionState}
 use Rattle.fc_transactions.specs.declared.ledger.Ledger.{Ledger}
 

@@ -1,5 +1,5 @@
 -- Each record of an element is of what a master can have begun, with participants that can be, whatever Configs come.
-use Rattle.std.proofs.Common.{◌≡◌, ℕ, ℤ, pos, negsuc, zero, suc, ◌+◌, ◌^◌, ◌<◌, ◌≤◌, ◌==◌, ◌&&◌, not, nat_lt, nat_le, cond, Bool, true, false, if◌then◌else◌, List, [], ◌∷◌, length, Option, Some, None, refl, sym, ap, ◌∙◌, arith}
+use Rattle.std.proofs.Common.{◌≡◌, ℕ, pos, negsuc, zero, suc, ◌^◌, ◌<◌, ◌≤◌, ◌==◌, ◌&&◌, not, nat_lt, nat_le, cond, Bool, true, false, if◌then◌else◌, List, [], ◌∷◌, length, Option, Some, None, refl, sym, ap, ◌∙◌, arith}
 use Rattle.std.specs.List.{AllByRecursion}
 use Rattle.std.specs.Option.{is_some, option_and_then}
 use Rattle.fc_base.specs.Ids.{Txn}
@@ -15,9 +15,9 @@ use Rattle.fc_msg.specs.declared.message.Message.{Message}
 use Rattle.fc_path.specs.declared.oper.Oper.{Oper}
 use Rattle.fc_path.specs.declared.oper.Oper.TheVariants as oper
 use Rattle.fc_path.specs.declared.oper.Select.{Select}
-use Rattle.fc_phases.specs.Asking.{aborted, asked, claim_or, claim_word, ended, ended_by, floor_in, floor_or_plain, opening_at, phase_asked, plain_asked, started as starting, subject_at, txn_of, with_subject}
+use Rattle.fc_phases.specs.Asking.{aborted, asked, claim_or, claim_word, ended, ended_by, floor_in, floor_or_plain, opening_at, phase_asked, started as starting, subject_at, txn_of, with_subject}
 use Rattle.fc_phases.specs.Shapes.{behind, first_full, rest_of}
-use Rattle.fc_phases.specs.Values.{both, each_of, group_of, int_word, ok_of, opened, opening_fields, opening_in, opening_of, opening_parts, pair, pair_of, subject_in, subject_of, subject_parts, table_of, two_words, word_layer, word_of}
+use Rattle.fc_phases.specs.Values.{both, each_of, group_of, ok_of, opened, opening_fields, opening_of, pair, pair_of, subject_of, subject_parts, table_of, two_words, word_layer, word_of}
 use Rattle.fc_phases.specs.declared.asked.Asked.{Asked}
 use Rattle.fc_phases.specs.declared.asked.Asked.TheVariants.{Claim, Floor, Plain, Start, Change, Commit, Complete as Completing, Abort as Aborting, Malformed}
 use Rattle.fc_phases.specs.declared.values.Opening.{Opening}

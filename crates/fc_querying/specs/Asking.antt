@@ -5,7 +5,8 @@ use Rattle.std.specs.List.{AllByRecursion}
 use Rattle.fc_abiding.specs.Abiding.{seen}
 use Rattle.fc_answering.specs.Mastership.{HasMastership}
 use Rattle.fc_asks.specs.Queries.{query_meaning}
-use Rattle.fc_asks.specs.Requests.{asks_held, asks_record}
+use Rattle.fc_asks.specs.Requests.{asks_held, asks_record, request_of}
+use Rattle.fc_asks.specs.declared.life.Life.{Life}
 use Rattle.fc_base.specs.Ids.{Txn}
 use Rattle.fc_blocks.specs.Queries.{told_selects}
 use Rattle.fc_element.specs.declared.input.ElIn.TheVariants.{Arrived}
@@ -24,6 +25,8 @@ use Rattle.fc_protocol.specs.ElementMachine.{Circumstance, hears, only_says, ris
 use Rattle.fc_protocol.specs.Messages.{is_name, stamp}
 use Rattle.fc_protocol.specs.Messages as said
 use Rattle.fc_protocol.specs.OneElement.{Distinct, Limited}
+use Rattle.fc_protocol.specs.Records as records
+use Rattle.fc_protocol.specs.Records.{listed, state_of}
 use Rattle.fc_protocol.specs.declared.answers.TxnEntry.{TxnEntry}
 use Rattle.fc_transactions.specs.State.{TransactionState}
 
@@ -85,3 +88,14 @@ pub record IsAnswered (s : ElementState) (peer : ℕ) (m : Message) (b : said.Bo
   pub stays : (step s (Arrived peer m)).state.transactions ≡ s.transactions
   pub read : query_meaning b (stamp m.corr) selects ≡ x
   pub said : hears (id_of s) (seen s.transactions) m.source heeded (stamp m.corr) b ≡ only_says (seen s.transactions) (Some x)
+
+-- the questions of any life of an associated control element, over any peer
+abbrev pub AnswersHeld : ElementState → Type 0
+AnswersHeld s =
+    (peer corr : ℕ) (life : Life) → IsAssociated s life.ce
+    → IsAnswered s peer (request_of life (id_of s) corr said.Ask) said.Ask (said.Holds (stamp corr) s.transactions.epoch (listed s.transactions.ledger.records.entries))
+
+abbrev pub AnswersRecords : ElementState → Type 0
+AnswersRecords s =
+    (peer corr : ℕ) (life : Life) (x : Txn) → IsAssociated s life.ce → IsTxn x
+    → IsAnswered s peer (request_of life (id_of s) corr (said.Ask_record x)) (said.Ask_record x) (said.Tells (stamp corr) x s.transactions.epoch (records.seen (state_of x s.transactions.ledger.records.entries)))

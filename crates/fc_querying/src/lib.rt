@@ -3,4 +3,6 @@
 
 mod laws;
 
-pub use laws::{answers_are_read, elements_can_be_asked, questions_are_answered};
+pub use laws::{
+    answers_are_read, elements_answer_questions, elements_can_be_asked, questions_are_answered,
+};
