@@ -3,6 +3,4 @@
 
 mod laws;
 
-pub use laws::{
-    elements_fold, elements_keep_to_the_protocol, replaced_lives_change_no_element,
-};
+pub use laws::{elements_fold, elements_keep_to_the_protocol, replaced_lives_change_no_element};
