@@ -11,6 +11,8 @@ mod messages;
 #[cfg(test)]
 mod node;
 #[cfg(test)]
+mod planned;
+#[cfg(test)]
 mod plans;
 #[cfg(test)]
 mod tables;

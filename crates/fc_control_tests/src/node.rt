@@ -6,7 +6,7 @@ ghost use Rattle.fc_hub.specs.Hubs.{is_given};
 use fc_base::{CeId, Epoch, Octets};
 use fc_control::{ControlNode, NodeStop, Served, serve};
 use fc_documents::{Plan, plan_from_slice};
-use fc_hub::{Act, HubEvent, MemHub};
+use fc_hub::{Act, Hub, HubEvent, MemHub};
 use std::alloc::Global;
 use std::test::Fail;
 
@@ -39,19 +39,26 @@ fn events(alloc: Global) -> Result<Vec<HubEvent>, Fail>
 }
 
 // The plan of element 1, without a transaction.
-fn one_element(alloc: Global) -> Result<Plan, Fail> {
+const ONE_ELEMENT: &str = "[[element]]\nid = 1\n";
+
+fn plan_of(alloc: Global, text: &str) -> Result<Plan, Fail> {
     Ok(
-        plan_from_slice(alloc, b"[[element]]\nid = 1\n")
+        plan_from_slice(alloc, text.as_bytes())
             .ok()
             .ok_or("a plan")?,
     )
 }
 
-// How the node of control element 40000001 ends over these events, at its first epoch and without a plan.
-fn ended(alloc: Global, hub: &mut MemHub, turns: u32) -> Result<Result<Served, NodeStop>, Fail> {
+// How the node of control element 40000001 ends over these events, at its first epoch and with this plan.
+pub(crate) fn ended<H: Hub>(
+    alloc: Global,
+    plan: &str,
+    hub: &mut H,
+    turns: u32,
+) -> Result<Result<Served, NodeStop>, Fail> {
     let ce = CeId::of(0x4000_0001).ok_or("a control element")?;
     let epoch = Epoch::of(1, ce).ok_or("an epoch")?;
-    let mut node = ControlNode::new(alloc, ce, epoch, one_element(alloc)?)?;
+    let mut node = ControlNode::new(alloc, ce, epoch, plan_of(alloc, plan)?)?;
     Ok(serve(&mut node, hub, turns))
 }
 
@@ -59,7 +66,7 @@ fn ended(alloc: Global, hub: &mut MemHub, turns: u32) -> Result<Result<Served, N
 fn an_element_is_granted_claimed_and_asked(rt: HostRuntime) -> Result<(), Fail> {
     let alloc = rt.alloc();
     let mut hub = MemHub::new(alloc, events(alloc)?, Vec::new(alloc));
-    assert_eq!(rt; ended(alloc, &mut hub, 9)?, Ok(Served::Over));
+    assert_eq!(rt; ended(alloc, ONE_ELEMENT, &mut hub, 9)?, Ok(Served::Over));
     let acts = hub.acts();
     assert_eq!(rt; acts.len(), 3);
     assert_eq!(rt; acts[0].0, 2);
@@ -79,7 +86,7 @@ fn an_act_that_fails_is_the_last(rt: HostRuntime) -> Result<(), Fail> {
         listed.push(failing)?;
         let mut hub = MemHub::new(alloc, events(alloc)?, listed);
         assert_eq!(rt;
-            ended(alloc, &mut hub, 9)?,
+            ended(alloc, ONE_ELEMENT, &mut hub, 9)?,
             Err(NodeStop::HubFault),
             "{failing}"
         );
@@ -94,7 +101,7 @@ fn no_more_events_are_taken_than_allowed(rt: HostRuntime) -> Result<(), Fail> {
     for (turns, acts) in [(1, 0), (2, 2), (3, 3)] {
         let mut hub = MemHub::new(alloc, events(alloc)?, Vec::new(alloc));
         assert_eq!(rt;
-            ended(alloc, &mut hub, turns)?,
+            ended(alloc, ONE_ELEMENT, &mut hub, turns)?,
             Ok(Served::Turns),
             "{turns}"
         );

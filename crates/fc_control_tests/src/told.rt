@@ -16,7 +16,7 @@ fn kind(body: &MsgBody) -> &'static str {
 }
 
 // To whom a message is, its kind, the low half of its correlator and the phase of its transaction, or `-` where it is of none.
-pub(crate) fn sent(alloc: Global, out: &CeOut) -> Result<String, Memory> {
+fn sent(alloc: Global, out: &CeOut) -> Result<String, Memory> {
     let to = out.to.get();
     let kind = kind(&out.message.body);
     let count = out.message.corr % 4_294_967_296;
@@ -25,6 +25,21 @@ pub(crate) fn sent(alloc: Global, out: &CeOut) -> Result<String, Memory> {
         return Ok(format!(in alloc; "{to} {kind} {count} {phase}")?);
     }
     Ok(format!(in alloc; "{to} {kind} {count} -")?)
+}
+
+// All of it, one message behind the other.
+pub(crate) fn all_sent(alloc: Global, outs: &[CeOut]) -> Result<String, Memory> {
+    let mut text = String::new(alloc);
+    for out in outs {
+        if !text.is_empty() {
+            text.push_str("; ")?;
+        }
+        text.push_str(sent(alloc, out)?.as_str())?;
+    }
+    if text.is_empty() {
+        text.push_str("nothing")?;
+    }
+    Ok(text)
 }
 
 pub(crate) fn refused(alloc: Global, fault: BeginFault) -> Result<String, Memory> {

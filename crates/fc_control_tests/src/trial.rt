@@ -4,22 +4,22 @@ ghost use Rattle.fc_protocol.specs.Collections.{among};
 ghost use Rattle.fc_jobs.specs.Sending.{are_apart as apart};
 
 use crate::messages::{change, held, message, record, response};
-use crate::told::{kept, refused, sent, unforgotten};
+use crate::told::{all_sent, kept, refused, unforgotten};
 use crate::words::{bytes_of, cut, element, transaction};
 use fc_base::{CeId, Epoch, FeId, List, Memory};
 use fc_master::{BeginFault, CeIn, CeOut, Change, Master, TxnPlan};
-use fc_msg::MsgBody;
+use fc_msg::{Message, MsgBody};
 use fc_path::OperKind;
 use std::alloc::Global;
 use std::test::Fail;
 
-// A control element over so many elements, from 1 on, and what it has sent: to whom, and with which correlator, the newest last.
+// A control element over so many elements, from 1 on, and what it has sent, the newest last.
 #[derive(Drop)]
 pub(crate) struct Trial {
     alloc: Global,
     count: u32,
     master: Master,
-    sent: Vec<(FeId, u64)>,
+    sent: Vec<CeOut>,
 }
 
 // A change of an instance of Port.
@@ -88,36 +88,52 @@ impl Trial {
         })
     }
 
-    // What is sent, in words; its correlators are kept.
+    // What is sent, in words; it is kept.
     fn told(&mut self, outs: List<CeOut>) -> Result<String, Fail> {
-        let mut text = String::new(self.alloc);
-        for out in outs.as_slice() {
-            self.sent.push((out.to, out.message.corr))?;
-            if !text.is_empty() {
-                text.push_str("; ")?;
-            }
-            text.push_str(sent(self.alloc, out)?.as_str())?;
-        }
-        if text.is_empty() {
-            text.push_str("nothing")?;
+        let text = all_sent(self.alloc, outs.as_slice())?;
+        for out in outs.into_vec() {
+            self.sent.push(out)?;
         }
         Ok(text)
     }
 
-    // The correlator of the last message to an element.
-    fn last_to(&self, element: FeId) -> u64 {
-        let mut corr = 0;
-        for entry in self.sent.as_slice() {
-            if entry.0 == element {
-                corr = entry.1;
+    // The last message to an element.
+    fn last_to(&self, element: FeId) -> Option<&Message> {
+        let mut last = None;
+        for out in self.sent.as_slice() {
+            if out.to == element {
+                last = Some(&out.message);
             }
         }
-        corr
+        last
+    }
+
+    // Its correlator; 0 where there was none.
+    fn corr_to(&self, element: FeId) -> u64 {
+        match self.last_to(element) {
+            None => 0,
+            Some(message) => message.corr,
+        }
+    }
+
+    // Whether each of these is the last message to its element once more.
+    fn are_last(&self, outs: &[CeOut]) -> bool {
+        for out in outs {
+            match self.last_to(out.to) {
+                None => return false,
+                Some(last) => {
+                    if *last != out.message {
+                        return false;
+                    }
+                }
+            }
+        }
+        true
     }
 
     fn hear(&mut self, word: &str, is_asking: bool, body: MsgBody) -> Result<String, Fail> {
         let from = element(word)?;
-        let corr = self.last_to(from);
+        let corr = self.corr_to(from);
         let outs = self
             .master
             .step(CeIn::Arrived(from, message(corr, is_asking, body)))?;
@@ -200,6 +216,15 @@ impl Trial {
         }
     }
 
+    // What waits at an element once more; `another` where it is not the message that was sent to it last, whole.
+    fn resend(&mut self, to: &str) -> Result<String, Fail> {
+        let outs = self.master.resend(element(to)?)?;
+        if self.are_last(outs.as_slice()) {
+            return self.told(outs);
+        }
+        Ok(String::from_str(self.alloc, "another")?)
+    }
+
     // The report, with a stroke for each end of a line.
     fn report(&self) -> Result<String, Fail> {
         let mut lines = Vec::new(self.alloc);
@@ -234,10 +259,7 @@ impl Trial {
             "plain" => self.plain(rest),
             "giveup" => self.give_up(rest),
             "forget" => self.forget(),
-            "resend" => {
-                let outs = self.master.resend(element(rest)?)?;
-                self.told(outs)
-            }
+            "resend" => self.resend(rest),
             "moment" => {
                 let outs = self.master.step(CeIn::Moment(0))?;
                 self.told(outs)

@@ -4,7 +4,7 @@ ghost use Rattle.fc_hub.specs.Rounds.{rise_above};
 
 use crate::running::{failing, ran, words};
 use crate::serving::{are_given, bytes_event};
-use fc_base::{SureSink, SureSource};
+use fc_base::{MemSink, MemSource, Sink, Source, SureSink, SureSource};
 use fc_hub::{Act, HubEvent, MemHub, MemRounds, SureHub, SureRounds};
 use fc_tool::run;
 use std::alloc::Global;
@@ -181,6 +181,63 @@ fn each_call_of_the_hub_fails_in_turn(rt: HostRuntime) -> Result<(), Fail> {
         assert_eq!(rt; over_failing(rt.alloc(), call)?, (4, done, 0), "{call}");
     }
     assert_eq!(rt; over_failing(rt.alloc(), 8)?, (0, 3, 31));
+    Ok(())
+}
+
+// The status over this input and output, where an element comes, and how many acts were done.
+fn over_ends<S: Source, K: Sink>(
+    alloc: Global,
+    input: &mut S,
+    out: &mut K,
+) -> Result<(u8, usize), Fail> {
+    let words = words(alloc, "control 40000001 r 1 9 a")?;
+    let events = visit(alloc, &[])?;
+    if !are_given(events.as_slice()) {
+        return Err(Fail::from("no hub tells these events"));
+    }
+    let mut hub = SureHub::new(alloc, events);
+    let mut rounds = SureRounds::new(1);
+    let status = run(alloc, words.as_slice(), input, out, &mut hub, &mut rounds);
+    Ok((status, hub.acts().len()))
+}
+
+// The status where a call of the source fails, how many acts were done and how much was written.
+fn from_failing(alloc: Global, call: u64) -> Result<(u8, usize, usize), Fail> {
+    let plan = Vec::from_slice(alloc, PLAN.as_bytes())?;
+    let mut input = MemSource::new(plan, 10, failing(alloc, call)?);
+    let mut out = SureSink::new(alloc);
+    let (status, acts) = over_ends(alloc, &mut input, &mut out)?;
+    Ok((status, acts, out.bytes().len()))
+}
+
+// The same where a call of the sink fails.
+fn to_failing(alloc: Global, call: u64) -> Result<(u8, usize, usize), Fail> {
+    let mut input = SureSource::new(Vec::from_slice(alloc, PLAN.as_bytes())?, 4096);
+    let mut out = MemSink::new(alloc, failing(alloc, call)?);
+    let (status, acts) = over_ends(alloc, &mut input, &mut out)?;
+    Ok((status, acts, out.bytes().len()))
+}
+
+#[test]
+fn each_call_of_the_source_fails_in_turn(rt: HostRuntime) -> Result<(), Fail> {
+    // Two pieces of the plan and the end are three reads.
+    for (call, ended) in [
+        (1, (2, 0, 0)),
+        (2, (2, 0, 0)),
+        (3, (2, 0, 0)),
+        (4, (0, 3, 31)),
+    ] {
+        assert!(rt; from_failing(rt.alloc(), call)? == ended, "at {call}");
+    }
+    Ok(())
+}
+
+#[test]
+fn each_call_of_the_sink_fails_in_turn(rt: HostRuntime) -> Result<(), Fail> {
+    // The report is one write. Then comes the flush.
+    for (call, ended) in [(1, (3, 3, 0)), (2, (3, 3, 31)), (3, (0, 3, 31))] {
+        assert!(rt; to_failing(rt.alloc(), call)? == ended, "at {call}");
+    }
     Ok(())
 }
 
