@@ -3,7 +3,7 @@
 use crate::library::element;
 use crate::words::bytes_of;
 use fc_element::{ElIn, Element};
-use fc_msg::{Message, decode};
+use fc_msg::decode;
 use std::alloc::Global;
 use std::test::Fail;
 
@@ -21,14 +21,6 @@ const MESSAGES: &str = "\
 1003001040000001000000020000010100000007C0400000100000280001F001000000010001001C0110001800000001000000060112000C0000010100000002
 1003000F40000001000000020000010100000008C040000010000024000010010000000100010018011000140000000100000001011200080000001E";
 
-fn message(alloc: Global, digits: &str) -> Result<Message, Fail> {
-    let bytes = bytes_of(alloc, digits)?;
-    match decode(alloc, &bytes) {
-        Ok(message) => Ok(message),
-        Err(_) => Err(Fail::from("no message")),
-    }
-}
-
 fn report(alloc: Global, element: &Element) -> Result<Vec<u8>, Fail> {
     let mut text = Vec::new(alloc);
     element.report(&mut text)?;
@@ -37,8 +29,11 @@ fn report(alloc: Global, element: &Element) -> Result<Vec<u8>, Fail> {
 
 // Whether the element takes a message, and does not want memory for it.
 fn arrives(alloc: Global, element: &mut Element, digits: &str) -> Result<bool, Fail> {
-    let message = message(alloc, digits)?;
-    Ok(element.step(ElIn::Arrived(1, message)).is_ok())
+    let bytes = bytes_of(alloc, digits)?;
+    match decode(alloc, &bytes) {
+        Ok(message) => Ok(element.step(ElIn::Arrived(1, message)).is_ok()),
+        Err(_) => Err(Fail::from("no message")),
+    }
 }
 
 // Whether the element takes a message at once, or has not changed where it wanted memory, and takes it then.
