@@ -9,6 +9,8 @@ mod claims;
 #[cfg(test)]
 mod configs;
 #[cfg(test)]
+mod full;
+#[cfg(test)]
 mod hub;
 #[cfg(test)]
 mod lines;
