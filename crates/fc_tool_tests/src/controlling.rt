@@ -321,7 +321,8 @@ fn a_transaction_is_begun_and_completed(rt: HostRuntime) -> Result<(), Fail> {
         (4, 7, "txn 257.1 unsettled\n"),
         (5, 0, "txn 257.1 completed\n"),
     ] {
-        let events = visit(alloc, &answers[..answered])?;
+        let so_far = answers.get(..answered).ok_or("the answers so far")?;
+        let events = visit(alloc, so_far)?;
         let (ended, report, hub) = controlled(alloc, "control 40000001 r 1 9 a", CHANGE, events)?;
         assert_eq!(rt; ended, status, "{answered}");
         assert!(rt; report.starts_with(REPORT.as_bytes()), "{answered}");
