@@ -1,4 +1,4 @@
-// How many transactions are held at once, and how many participants each has: up to the most, and one more.
+// How many transactions have a record, how many are held at once, and how many participants each has: up to the most, and one more.
 use crate::tables::first_wrong;
 use std::alloc::{AllocError, Global};
 use std::fmt::Write;
@@ -42,6 +42,22 @@ fn push_record(case: &mut String, number: u32, state: &str) -> Result<(), AllocE
     write!(case, "\nrecord 257.{number} {state}")
 }
 
+// The same under its number as sequence, with the bytes of both messages, which are made and compared in far less time than their text.
+fn push_abort_in_bytes(case: &mut String, number: u32) -> Result<(), AllocError> {
+    write!(
+        case,
+        "10030010 40000001 00000002 00000101 {number:08X} C0780000 10000028 0001F001 00000001 0001001C 01100018 00000001 00000005 0112000C 00000101 {number:08X} = 1013000F 00000002 40000001 00000101 {number:08X} 00000000 10000024 0001F001 00000001 00030018 01100014 00000001 00000005 01140008 00000000\n"
+    )
+}
+
+// Transactions without a record are aborted, by their numbers from 1 to this one.
+fn push_aborts(case: &mut String, last: u32) -> Result<(), AllocError> {
+    for number in 1..=last {
+        push_abort_in_bytes(case, number)?;
+    }
+    Ok(())
+}
+
 // Transactions are started, by their numbers from 1 to this one, each over the port of its number.
 fn push_starts(case: &mut String, last: u32) -> Result<(), AllocError> {
     for number in 1..=last {
@@ -55,6 +71,30 @@ fn push_records(case: &mut String, first: u32, last: u32, state: &str) -> Result
     for number in first..=last {
         push_record(case, number, state)?;
     }
+    Ok(())
+}
+
+// Behind as many records as there may be no other transaction has one, but those that have one are answered as before.
+fn all_kept(alloc: Global) -> Result<String, Fail> {
+    let mut case = String::from_str(alloc, CLAIMED)?;
+    push_aborts(&mut case, 4096)?;
+    push_abort(&mut case, 4097, 4097, "0E")?;
+    push_start(&mut case, 4098, 1, "0E")?;
+    push_abort(&mut case, 4099, 4096, "00")?;
+    case.push_str("element 2 epoch 257 ce 40000001 sequence 4099")?;
+    push_records(&mut case, 1, 4096, "aborted")?;
+    Ok(case)
+}
+
+#[test]
+fn full_records_take_no_other_transaction(rt: HostRuntime) -> Result<(), Fail> {
+    let alloc = rt.alloc();
+    let document = ports(alloc, 1)?;
+    let case = all_kept(alloc)?;
+    assert_eq!(rt;
+        first_wrong(alloc, document.as_str(), case.as_str(), 65_536)?,
+        None
+    );
     Ok(())
 }
 
