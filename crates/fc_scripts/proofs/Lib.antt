@@ -1,0 +1,4 @@
+pub mod Counting
+pub mod Stopping
+pub mod Judging
+pub mod Keeping
