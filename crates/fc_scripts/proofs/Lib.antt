@@ -1,4 +1,0 @@
-pub mod Counting
-pub mod Stopping
-pub mod Judging
-pub mod Keeping

@@ -1,6 +1,0 @@
-pub mod Tables
-pub mod Steps
-pub mod Rules
-pub mod Scripts
-pub mod Kept
-pub mod Causes
