@@ -42,7 +42,7 @@ moment_keys key ms =
 element_keys : (ms : Members) → of_keys (element ms) ≡ true
 element_keys ms = search (rules, bind_keys, only_keys, number_keys) depth 12
 
-change_keys : (ms : Members) → of_keys (change ms) ≡ true
+pub change_keys : (ms : Members) → of_keys (change ms) ≡ true
 change_keys ms = search (rules, bind_keys, only_keys, number_keys, text_keys) depth 12
 
 transaction_keys : (ms : Members) → of_keys (transaction ms) ≡ true
@@ -52,7 +52,7 @@ plan_keys : (ms : Members) → of_keys (plan_table ms) ≡ true
 plan_keys ms = search (rules, bind_keys, only_keys, tables_keys, tables_or_keys, each_keys, element_keys, transaction_keys) depth 12
 
 -- the bodies give no fault but that of the rule, and something exactly where each one is a change
-abbrev OnlyBody : {A : Type 0} → Result A LibFault → Type 0
+abbrev pub OnlyBody : {A : Type 0} → Result A LibFault → Type 0
 OnlyBody {A} r = (fault : LibFault) → r ≡ Err fault → fault ≡ Rule broken.Body
 
 only_if : (selects : List Select) (o : Option ChangeFault) → OnlyBody (change_if selects o)
@@ -116,6 +116,12 @@ parts_ok cs =
 bodies_ok : (t : TransactionTable) → has_bodies t ≡ is_ok (transaction_of t)
 bodies_ok t = parts_ok t.changes ∙ ok_made (parts_of t.changes) (made t)
 
+pub only_bodies : (ts : List TransactionTable) → OnlyBody (each_of transaction_of ts)
+only_bodies ts = only_each transaction_of only_transaction ts
+
+pub bodies_read : (ts : List TransactionTable) → list_all has_bodies ts ≡ is_ok (each_of transaction_of ts)
+bodies_read ts = ok_each transaction_of has_bodies bodies_ok ts
+
 -- the rules, in their order
 abbrev Judged : {T P : Type 0} → Result P LibFault → Option DocumentRule → Result T LibFault → (T → P) → Type 0
 Judged {T} {P} whole first r make = ((x : DocumentRule) × (whole ≡ Err (Rule x)) × (first ≡ Some x)) ⊎ ((t : T) × (whole ≡ Ok (make t)) × (r ≡ Ok t) × (first ≡ None))
@@ -147,13 +153,13 @@ same_rules : (table : PlanTable)
     ≡ plan_rules table
 same_rules table =
     ap₂ (λ (b d : Bool). (keeps_limits table, broken.TooMany) ∷ (keeps_elements table, broken.Element) ∷ (keeps_names table.transactions, broken.Name) ∷ (b, broken.Body) ∷ (d, broken.TooMany) ∷ [])
-    (sym (ok_each transaction_of has_bodies bodies_ok table.transactions)) (same_begun (each_of transaction_of table.transactions))
+    (sym (bodies_read table.transactions)) (same_begun (each_of transaction_of table.transactions))
 
 judged : (table : PlanTable) → Judged (plan_in table) (first_broken (plan_rules table)) (each_of transaction_of table.transactions) (planned table.elements)
 judged table =
     subst (λ (tests : List (Bool × DocumentRule)). Judged (plan_in table) (first_broken tests) (each_of transaction_of table.transactions) (planned table.elements)) (same_rules table)
     (judged_by (keeps_limits table) (keeps_elements table) (keeps_names table.transactions) (each_of transaction_of table.transactions) (λ ts. list_all can_begin ts) (planned table.elements)
-    (only_each transaction_of only_transaction table.transactions))
+    (only_bodies table.transactions))
 
 -- what follows of it
 module _ {T P : Type 0} (whole : Result P LibFault) (first : Option DocumentRule) (r : Result T LibFault) (make : T → P) where
@@ -204,7 +210,7 @@ key_told : (o : Option Members) (fault : LibFault) → is_of_key fault ≡ true 
 key_told None fault h e = let same : NotToml ≡ fault = cc in absurd (false≢true (ap is_of_key same ∙ h))
 key_told (Some ms) fault h e = (ms, refl, key_read (plan_table ms) fault h e)
 
-of_key : (key : List ℕ) (fault : LibFault) → IsOfKey key fault → is_of_key fault ≡ true
+pub of_key : (key : List ℕ) (fault : LibFault) → IsOfKey key fault → is_of_key fault ≡ true
 of_key key fault (inl is) = ap is_of_key is
 of_key key fault (inr (inl is)) = ap is_of_key is
 of_key key fault (inr (inr is)) = ap is_of_key is

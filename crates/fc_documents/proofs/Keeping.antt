@@ -49,15 +49,15 @@ parts_listed es cs ps e h =
     all_made (part_of cs) (is_listed es) (is_listed_part es) (λ d p is k. ap (is_listed es) (part_is cs d p is) ∙ k) (participants cs) ps (parts_are cs ps e).1
     (all_entered (is_listed es) cs [] h refl)
 
-transaction_listed : (es : List ℕ) (t : TransactionTable) (x : PlanTxn) → transaction_of t ≡ Ok x → keeps_to es t ≡ true → has_listed es x ≡ true
+pub transaction_listed : (es : List ℕ) (t : TransactionTable) (x : PlanTxn) → transaction_of t ≡ Ok x → keeps_to es t ≡ true → has_listed es x ≡ true
 transaction_listed es t x e h =
     let (ps, read, is) = transaction_is t x e in
     subst (λ (y : PlanTxn). has_listed es y ≡ true) (sym is) (parts_listed es t.changes ps read h)
 
-same_name : (t : TransactionTable) (x : PlanTxn) → transaction_of t ≡ Ok x → kept.name_of x ≡ name_of t
+pub same_name : (t : TransactionTable) (x : PlanTxn) → transaction_of t ≡ Ok x → kept.name_of x ≡ name_of t
 same_name t x e = let (ps, read, is) = transaction_is t x e in ap kept.name_of is
 
-named_still : (t : TransactionTable) (x : PlanTxn) → transaction_of t ≡ Ok x → has_name t ≡ true → kept.has_name x ≡ true
+pub named_still : (t : TransactionTable) (x : PlanTxn) → transaction_of t ≡ Ok x → has_name t ≡ true → kept.has_name x ≡ true
 named_still t x e h = ap is_name (same_name t x e) ∙ h
 
 is_plan : (table : PlanTable) (ts : List PlanTxn) → keeps_limits table ≡ true → keeps_elements table ≡ true → keeps_names table.transactions ≡ true

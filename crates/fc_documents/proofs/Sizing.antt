@@ -10,7 +10,7 @@ use Rattle.fc_plans.specs.declared.plan.Part.{Part}
 use Rattle.fc_plans.proofs.Scoping.{same_order}
 use Rattle.fc_protocol.specs.Collections.{or_next}
 use Rattle.fc_documents.specs.Rules.{is_of, entered, entered_by, participants, bodies_at, is_few, has_few}
-use Rattle.fc_documents.specs.Parts.{each_of, change_of, part_of, transaction_of, can_begin}
+use Rattle.fc_documents.specs.Parts.{each_of, change_of, part_of, transaction_of, makes_plan, can_begin}
 use Rattle.fc_documents.specs.Causes.{is_small_scope, has_small_scopes}
 use Rattle.fc_documents.specs.declared.tables.ChangeTable.{ChangeTable}
 use Rattle.fc_documents.specs.declared.tables.TransactionTable.{TransactionTable}
@@ -163,5 +163,8 @@ scopes_by : (b : Bool) (ps : Parts) → order_fault (map whole ps) ≡ None → 
 scopes_by true ps h = scope_left (map scoped ps) (same_order ps ∙ h) ∙ list_all-map has_scope scoped ps
 scopes_by false ps h = scope_left (map whole ps) h ∙ whole_scopes ps
 
+pub plan_where : (t : TransactionTable) (x : PlanTxn) → has_few t ≡ true → transaction_of t ≡ Ok x → makes_plan x ≡ has_small_scopes x
+plan_where t x few e = scopes_by x.scoped x.parts (in_order t x few e)
+
 pub begun_where : (t : TransactionTable) (x : PlanTxn) → has_few t ≡ true → transaction_of t ≡ Ok x → can_begin x ≡ (has_small_scopes x && nat_le (length x.parts) 64)
-begun_where t x few e = ap (λ (b : Bool). b && nat_le (length x.parts) 64) (scopes_by x.scoped x.parts (in_order t x few e))
+begun_where t x few e = ap (λ (b : Bool). b && nat_le (length x.parts) 64) (plan_where t x few e)

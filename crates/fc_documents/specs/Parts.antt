@@ -55,6 +55,10 @@ transaction_of t = parts_of t.changes >>= λ parts. Ok (record { name = t.name; 
 abbrev pub begun : PlanTxn → List Part
 begun t = if t.scoped then map plans.scoped t.parts else map plans.whole t.parts
 
--- a control element can begin it: its parts are those of a plan, and it has at most 64 participants
+-- its parts are those of a plan
+abbrev pub makes_plan : PlanTxn → Bool
+makes_plan t = is_none (plans.plan_fault (begun t))
+
+-- a control element can begin it: it is a plan, and has at most 64 participants
 abbrev pub can_begin : PlanTxn → Bool
-can_begin t = is_none (plans.plan_fault (begun t)) && nat_le (length t.parts) 64
+can_begin t = makes_plan t && nat_le (length t.parts) 64

@@ -108,7 +108,7 @@ fn transaction_of(alloc: Global, table: TransactionTable) -> Result<PlanTxn, Lib
 }
 
 /// The transactions of these tables.
-pub(crate) fn transactions_of(
+pub fn transactions_of(
     alloc: Global,
     tables: List<TransactionTable>,
 ) -> Result<List<PlanTxn>, LibFault>

@@ -26,8 +26,8 @@ pub fn plan_from_slice(alloc: Global, bytes: &[u8]) -> Result<Plan, LibFault>
     plan_of(alloc, &table)
 }
 
-// The table that the bytes of a document write.
-fn table_from_slice(alloc: Global, bytes: &[u8]) -> Result<Table, LibFault>
+/// The table that the bytes of a document write.
+pub fn table_from_slice(alloc: Global, bytes: &[u8]) -> Result<Table, LibFault>
     ensures { GivesBy table_view result (table_of bytes.now) }
 {
     match toml::table_from_slice(alloc, bytes) {
@@ -54,8 +54,12 @@ fn plan_of(alloc: Global, table: &Table) -> Result<Plan, LibFault>
 fn plan_in(alloc: Global, tables: PlanTable) -> Result<Plan, LibFault>
     ensures { Gives result (spec.plan_in tables) }
 {
-    keep_limits(alloc, &tables)?;
-    keep_elements(&tables)?;
+    keep_limits(
+        alloc,
+        tables.elements.as_slice(),
+        tables.transactions.as_slice(),
+    )?;
+    keep_elements(tables.elements.as_slice(), tables.transactions.as_slice())?;
     keep_names(tables.transactions.as_slice())?;
     let PlanTable {
         elements,

@@ -9,7 +9,7 @@ ghost use Rattle.fc_library.specs.declared.fault.LibFault.{LibFault};
 ghost use Rattle.fc_library.specs.declared.fault.LibFault.TheVariants.{NotToml, Check, Rule, StepText, Memory};
 ghost use Rattle.fc_documents.specs.Tables.{plan_table};
 ghost use Rattle.fc_documents.specs.Rules.{has_few, is_of, is_listed, participants};
-ghost use Rattle.fc_documents.specs.Parts.{can_begin, each_of, element_of, HasOwn, transaction_of};
+ghost use Rattle.fc_documents.specs.Parts.{makes_plan, can_begin, each_of, element_of, HasOwn, transaction_of};
 ghost use Rattle.fc_documents.specs.Plans.{Planned, plan_of};
 ghost use Rattle.fc_documents.specs.Kept.{IsPlan};
 ghost use Rattle.fc_documents.specs.Causes.{IsOfKey, first_broken, has_small_scopes, plan_rules};
@@ -37,10 +37,11 @@ pub fn plans_keep_their_rules()
     ensures { (bytes : List ℕ) (plan : Planned) → plan_of bytes ≡ Ok plan → IsPlan plan }
 {}
 
-/// Of what is read of a transaction that has few changes of each element, only a scope that is too large or too many participants keep
-/// a control element from beginning it.
+/// What is read of a transaction that has few changes of each element is no plan only where a scope is too large, and beside that only too
+/// many participants keep a control element from beginning it.
 pub fn only_size_forbids_beginning()
-    ensures { (t : TransactionTable) (x : PlanTxn) → has_few t ≡ true → transaction_of t ≡ Ok x → can_begin x ≡ (has_small_scopes x && nat_le (length x.parts) 64) }
+    ensures scopes { (t : TransactionTable) (x : PlanTxn) → has_few t ≡ true → transaction_of t ≡ Ok x → makes_plan x ≡ has_small_scopes x }
+    ensures begun { (t : TransactionTable) (x : PlanTxn) → has_few t ≡ true → transaction_of t ≡ Ok x → can_begin x ≡ (has_small_scopes x && nat_le (length x.parts) 64) }
 {}
 
 /// The participants of a transaction are the elements that its changes are of, and each one's changes are what the bodies of its

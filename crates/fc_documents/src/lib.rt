@@ -11,11 +11,13 @@ mod rules;
 mod tables;
 mod transaction;
 
-pub use document::plan_from_slice;
+pub use bodies::transactions_of;
+pub use document::{plan_from_slice, table_from_slice};
 pub use laws::{
     changes_keep_their_order, only_size_forbids_beginning, plans_are_judged_once,
     plans_keep_their_rules,
 };
 pub use plan::Plan;
-pub use tables::{ChangeTable, PlanTable, TransactionTable};
+pub use rules::{keep, keep_elements, keep_limits, keep_names};
+pub use tables::{ChangeTable, PlanTable, TransactionTable, changes, element_at};
 pub use transaction::PlanTxn;

@@ -8,7 +8,7 @@ ghost use Rattle.fc_library.specs.declared.fault.DocumentRule.TheVariants as rul
 ghost use Rattle.fc_documents.specs.Rules as spec;
 
 use crate::participants::are_few;
-use crate::tables::{ChangeTable, PlanTable, TransactionTable};
+use crate::tables::{ChangeTable, TransactionTable};
 use fc_base::{FeId, Memory};
 use fc_library::{DocumentRule, LibFault};
 use std::alloc::Global;
@@ -20,7 +20,7 @@ const MOST_ELEMENTS: usize = 255;
 const MOST_TRANSACTIONS: usize = 1_024;
 
 /// Refuses what does not keep the rule.
-pub(crate) fn keep(rule: DocumentRule, is_kept: bool) -> Result<(), LibFault>
+pub fn keep(rule: DocumentRule, is_kept: bool) -> Result<(), LibFault>
     ensures { Gives result (spec.kept rule is_kept) }
 {
     if is_kept {
@@ -30,27 +30,35 @@ pub(crate) fn keep(rule: DocumentRule, is_kept: bool) -> Result<(), LibFault>
     }
 }
 
-/// Refuses more of anything than there may be, the participants aside.
-pub(crate) fn keep_limits(alloc: Global, plan: &PlanTable) -> Result<(), LibFault>
-    ensures { Gives result (spec.kept rules.TooMany (spec.keeps_limits plan.now)) }
+/// Refuses more elements or transactions than there may be, and more changes of an element in one of them.
+pub fn keep_limits(
+    alloc: Global,
+    elements: &[FeId],
+    transactions: &[TransactionTable],
+) -> Result<(), LibFault>
+    ensures { Gives result (spec.kept rules.TooMany (spec.keeps_limits (record { elements = elements.now; transactions = transactions.now }))) }
 {
-    let is_kept = keeps_limits(alloc, plan)?;
+    let is_kept = keeps_limits(alloc, elements, transactions)?;
     keep(DocumentRule::TooMany, is_kept)
 }
 
-fn keeps_limits(alloc: Global, plan: &PlanTable) -> Result<bool, Memory>
-    ensures { IfOk result (λ keeps. keeps ≡ spec.keeps_limits plan.now) }
+fn keeps_limits(
+    alloc: Global,
+    elements: &[FeId],
+    transactions: &[TransactionTable],
+) -> Result<bool, Memory>
+    ensures { IfOk result (λ keeps. keeps ≡ spec.keeps_limits (record { elements = elements.now; transactions = transactions.now })) }
 {
-    if !is_short(plan) {
+    if !are_short(elements, transactions) {
         return Ok(false);
     }
-    all_have_few(alloc, plan.transactions.as_slice())
+    all_have_few(alloc, transactions)
 }
 
-fn is_short(plan: &PlanTable) -> bool
-    ensures { result ≡ spec.is_short plan.now }
+fn are_short(elements: &[FeId], transactions: &[TransactionTable]) -> bool
+    ensures { result ≡ spec.is_short (record { elements = elements.now; transactions = transactions.now }) }
 {
-    plan.elements.len() <= MOST_ELEMENTS && plan.transactions.len() <= MOST_TRANSACTIONS
+    elements.len() <= MOST_ELEMENTS && transactions.len() <= MOST_TRANSACTIONS
 }
 
 fn all_have_few(alloc: Global, transactions: &[TransactionTable]) -> Result<bool, Memory>
@@ -65,17 +73,19 @@ fn all_have_few(alloc: Global, transactions: &[TransactionTable]) -> Result<bool
 }
 
 /// Refuses an element that is listed twice, and a change of one that is not listed.
-pub(crate) fn keep_elements(plan: &PlanTable) -> Result<(), LibFault>
-    ensures { Gives result (spec.kept rules.Element (spec.keeps_elements plan.now)) }
+pub fn keep_elements(elements: &[FeId], transactions: &[TransactionTable]) -> Result<(), LibFault>
+    ensures { Gives result (spec.kept rules.Element (spec.keeps_elements (record { elements = elements.now; transactions = transactions.now }))) }
 {
-    keep(DocumentRule::Element, keeps_elements(plan))
+    keep(
+        DocumentRule::Element,
+        keeps_elements(elements, transactions),
+    )
 }
 
-fn keeps_elements(plan: &PlanTable) -> bool
-    ensures { result ≡ spec.keeps_elements plan.now }
+fn keeps_elements(elements: &[FeId], transactions: &[TransactionTable]) -> bool
+    ensures { result ≡ spec.keeps_elements (record { elements = elements.now; transactions = transactions.now }) }
 {
-    are_apart(plan.elements.as_slice())
-        && all_are_listed(plan.elements.as_slice(), plan.transactions.as_slice())
+    are_apart(elements) && all_are_listed(elements, transactions)
 }
 
 fn are_apart(elements: &[FeId]) -> bool
@@ -125,7 +135,7 @@ fn are_listed(elements: &[FeId], changes: &[ChangeTable]) -> bool
 }
 
 /// Refuses a transaction without a name, and one with the name of another.
-pub(crate) fn keep_names(transactions: &[TransactionTable]) -> Result<(), LibFault>
+pub fn keep_names(transactions: &[TransactionTable]) -> Result<(), LibFault>
     ensures { Gives result (spec.kept rules.Name (spec.keeps_names transactions.now)) }
 {
     keep(DocumentRule::Name, keeps_names(transactions))

@@ -107,7 +107,8 @@ fn transaction(alloc: Global, table: &Table) -> Result<TransactionTable, LibFaul
     })
 }
 
-fn changes(alloc: Global, values: &[Value]) -> Result<List<ChangeTable>, LibFault>
+/// The changes that tables say, in their order.
+pub fn changes(alloc: Global, values: &[Value]) -> Result<List<ChangeTable>, LibFault>
     ensures { Gives result (each spec.change (items_view values.now)) }
 {
     let mut changes = List::new(alloc);
@@ -129,8 +130,8 @@ fn change(alloc: Global, table: &Table) -> Result<ChangeTable, LibFault>
     Ok(ChangeTable { element, body })
 }
 
-// The ID of an element, at a key that has to be there.
-fn element_at(alloc: Global, table: &Table, key: &str) -> Result<FeId, LibFault>
+/// The ID of an element, at a key that has to be there.
+pub fn element_at(alloc: Global, table: &Table, key: &str) -> Result<FeId, LibFault>
     ensures { Gives result (spec.element_at key.now (table_view table.now)) }
 {
     let id = number_at(alloc, table, key, 1, 0x3FFF_FFFF)?;

@@ -7,7 +7,7 @@ use Rattle.fc_library.specs.declared.fault.LibFault.TheVariants.{Unknown, Missin
 use Rattle.fc_library.specs.declared.names.TypeName.{TypeName}
 use Rattle.fc_library.specs.declared.names.TypeName.TheVariants as type
 use Rattle.fc_base.specs.Answers.{◌>>=◌}
-use Rattle.fc_library.specs.Keys.{unknown_keys, none_of, only, needed, given, found_or_wrong, number_in, number, number_at, number_or, integer_or, text, text_at, truth, truth_or, are_tables, tables, tables_at, tables_or_none, one_table, table_at, numbers_in, numbers, numbers_at}
+use Rattle.fc_library.specs.Keys.{unknown_keys, none_of, only, needed, given, found_or_wrong, number_in, number, number_at, number_or, integer_or, text, text_at, truth, truth_or, are_tables, tables, tables_at, tables_or_none, one_table, table_at, numbers_in, numbers, numbers_at, texts_in, texts, texts_at}
 use Rattle.fc_library.specs.Names.{least, type_word, type_at, when_word, when_at}
 use Rattle.fc_library.specs.Types.{each, key, field_in, entry_in, struct_in, array_in, type_in, type_by, type_of}
 use Rattle.fc_library.specs.Declarations.{component, event, class, instance, declaration}
@@ -119,6 +119,22 @@ numbers_of key (datetime t) = refl
 numbers_of key (array ds) = numbers_in_keys key ds
 numbers_of key (table ms) = refl
 
+texts_in_keys : (key : List ℕ) (ds : Items) → of_keys (texts_in key ds) ≡ true
+texts_in_keys key no_items = refl
+texts_in_keys key (item d ds) = bind_keys (text key d) _ (text_in key d) (λ t. bind_keys (texts_in key ds) _ (texts_in_keys key ds) (λ ts. refl))
+
+texts_of : (key : List ℕ) (d : Data) → of_keys (texts key d) ≡ true
+texts_of key (string s) = refl
+texts_of key (integer z) = refl
+texts_of key (float x) = refl
+texts_of key (boolean b) = refl
+texts_of key (datetime t) = refl
+texts_of key (array ds) = texts_in_keys key ds
+texts_of key (table ms) = refl
+
+pub texts_keys : (key : List ℕ) (ms : Members) → of_keys (texts_at key ms) ≡ true
+texts_keys key ms = needed_keys key (texts key) (get_member key ms) (texts_of key)
+
 numbers_keys : (key : List ℕ) (ms : Members) → of_keys (numbers_at key ms) ≡ true
 numbers_keys key ms = needed_keys key (numbers key) (get_member key ms) (numbers_of key)
 
@@ -178,10 +194,10 @@ component_keys ms = search (rules, bind_keys, only_keys, number_keys, text_keys,
 event_keys : (ms : Members) → of_keys (event ms) ≡ true
 event_keys ms = search (rules, bind_keys, only_keys, number_keys, text_keys, when_at_keys, numbers_keys) depth 12
 
-class_keys : (ms : Members) → of_keys (class ms) ≡ true
+pub class_keys : (ms : Members) → of_keys (class ms) ≡ true
 class_keys ms = search (rules, bind_keys, only_keys, number_keys, text_keys, tables_or_keys, number_or_keys, each_keys, component_keys, event_keys) depth 12
 
-instance_keys : (ms : Members) → of_keys (instance ms) ≡ true
+pub instance_keys : (ms : Members) → of_keys (instance ms) ≡ true
 instance_keys ms = search (rules, bind_keys, only_keys, number_keys) depth 12
 
 pub declaration_keys : (ms : Members) → of_keys (declaration ms) ≡ true

@@ -122,3 +122,15 @@ numbers key _ = Err (WrongKind key)
 
 abbrev pub numbers_at : List ℕ → Members → Result (List ℕ) LibFault
 numbers_at key ms = needed key (numbers key) (get_member key ms)
+
+-- an array of texts
+abbrev pub texts_in : List ℕ → Items → Result (List (List ℕ)) LibFault
+texts_in key no_items = Ok []
+texts_in key (item d ds) = text key d >>= λ t. texts_in key ds >>= λ ts. Ok (t ∷ ts)
+
+abbrev pub texts : List ℕ → Data → Result (List (List ℕ)) LibFault
+texts key (array ds) = texts_in key ds
+texts key _ = Err (WrongKind key)
+
+abbrev pub texts_at : List ℕ → Members → Result (List (List ℕ)) LibFault
+texts_at key ms = needed key (texts key) (get_member key ms)

@@ -29,7 +29,8 @@ pub(crate) fn declaration(
     Ok((classes, instances))
 }
 
-fn classes(alloc: Global, values: &[Value]) -> Result<List<Class>, LibFault>
+/// The classes that tables declare, in their order.
+pub fn classes(alloc: Global, values: &[Value]) -> Result<List<Class>, LibFault>
     ensures { Gives result (each spec.class (items_view values.now)) }
 {
     let mut classes = List::new(alloc);
@@ -133,7 +134,8 @@ fn event(alloc: Global, table: &Table) -> Result<EventDecl, LibFault>
     })
 }
 
-fn instances(alloc: Global, values: &[Value]) -> Result<List<(u32, u32)>, LibFault>
+/// The instances that tables declare, in their order.
+pub fn instances(alloc: Global, values: &[Value]) -> Result<List<(u32, u32)>, LibFault>
     ensures { Gives result (each spec.instance (items_view values.now)) }
 {
     let mut instances = List::new(alloc);

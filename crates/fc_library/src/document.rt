@@ -49,8 +49,8 @@ fn library(alloc: Global, table: &Table) -> Result<(Library, Instances), LibFaul
     checked(classes, instances)
 }
 
-// The classes and the instances as a library, where they keep its rules.
-fn checked(
+/// The classes and the instances as a library, where they keep its rules.
+pub fn checked(
     classes: List<Class>,
     instances: List<(u32, u32)>,
 ) -> Result<(Library, Instances), LibFault>

@@ -221,3 +221,33 @@ fn numbers(alloc: Global, values: &[Value], key: &str) -> Result<List<u32>, LibF
     }
     Ok(numbers)
 }
+
+/// The array of texts at a key that has to be there.
+pub fn texts_at(alloc: Global, table: &Table, key: &str) -> Result<List<Text>, LibFault>
+    ensures { Gives result (spec.texts_at key.now (table_view table.now)) }
+{
+    match find(table, key) {
+        Some(Value::Array(values)) => texts(alloc, values, key),
+        Some(_) => Err(wrong_kind(alloc, key)),
+        None => Err(missing(alloc, key)),
+    }
+}
+
+fn texts(alloc: Global, values: &[Value], key: &str) -> Result<List<Text>, LibFault>
+    ensures { Gives result (spec.texts_in key.now (items_view values.now)) }
+{
+    let mut texts = List::new(alloc);
+    'values: for value in values {
+        texts.push(text(alloc, value, key)?)?;
+    }
+    Ok(texts)
+}
+
+fn text(alloc: Global, value: &Value, key: &str) -> Result<Text, LibFault>
+    ensures { Gives result (spec.text key.now (view value.now)) }
+{
+    match value {
+        Value::String(text) => Ok(Text::from_str(alloc, text.as_str())?),
+        _ => Err(wrong_kind(alloc, key)),
+    }
+}
