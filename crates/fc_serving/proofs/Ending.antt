@@ -1,8 +1,10 @@
 -- How `element` ends, from how its parts ended.
-use Rattle.std.proofs.Common.{◌≡◌, ◌≢◌, ◌<◌, ℕ, List, length, refl, sym, ap, subst, ◌∙◌, inl, inr, [], codes, Option, Result, Ok, Err, IfOk}
+use Rattle.std.proofs.Common.{◌≡◌, ◌≢◌, ℕ, List, refl, sym, ap, subst, ◌∙◌, inl, inr, [], codes, Option, Result, Ok, Err, IfOk}
+use Rattle.std.specs.Prelude.{OnErr, OnOk}
 use Rattle.std.specs.Io.KnownBytes.{Appends, Keeps}
 use Rattle.std.proofs.KnownBytes.{Appends-nil}
 use Rattle.fc_base.specs.Content.{AppendsFront}
+use Rattle.fc_element.specs.ElementState.{ElementState}
 use Rattle.fc_element.specs.Reports.{report_of}
 use Rattle.fc_hub.specs.Hubs.{Held}
 use Rattle.fc_hub.specs.declared.event.HubEvent.{HubEvent}
@@ -16,8 +18,8 @@ use Rattle.fc_serving.specs.declared.serve.Served.{Served}
 use Rattle.fc_serving.specs.declared.serve.Served.TheVariants as served
 use Rattle.fc_endings.specs.declared.stops.Stop.{Stop}
 use Rattle.fc_endings.specs.declared.stops.Stop.TheVariants.{NoMemory}
-use Rattle.fc_serving.specs.Serving.{Broke, ServeEnds}
-use Rattle.fc_serving.specs.ElementNode.{NodeState, node, first_node, node_after, node_by, node_given}
+use Rattle.fc_serving.specs.Serving.{ServeEnds}
+use Rattle.fc_serving.specs.ElementNode.{NodeState, node, first_node, node_by, node_given}
 use Rattle.fc_types.specs.declared.class.Class.{Class}
 use Rattle.fc_library.specs.Documents.{GivesLibrary, library_of}
 use Rattle.fc_element.proofs.Openings.{opened_same}
@@ -27,8 +29,8 @@ use Rattle.fc_library.specs.Refusals.{refusal_text}
 use Rattle.fc_library.specs.declared.fault.LibFault.{LibFault}
 use Rattle.fc_library.specs.declared.fault.LibFault.TheVariants as fault
 use Rattle.fc_endings.specs.Looks.{LookEnds}
-use Rattle.fc_serving.specs.ElementRun.{ActedSo, DocumentEnds, DocumentLacked, DocumentWent, ElementEnds, ElementLacked, ElementWent, HubLacked, IsRun, JudgedSo, MeansLibrary, RunEnds, RunWent, element_text, look_of, refused_text}
-use Rattle.fc_endings.proofs.Endings.{cut_short, finished_ends, widened}
+use Rattle.fc_serving.specs.ElementRun.{DocumentEnds, DocumentLacked, DocumentWent, ElementEnds, ElementLacked, ElementWent, HubLacked, IsRun, JudgedSo, MeansLibrary, RunEnds, RunWent, element_text, end_by, look_of, refused_text}
+use Rattle.fc_endings.proofs.Endings.{finished_ends, told_ends, widened}
 
 document_lacks : (limit id ce turns : ℕ) (bytes : List ℕ) (before left : Option (List ℕ)) (old new : Option Held) → LookEnds limit (Ok look.Whole) bytes before left
     → DocumentLacked id ce turns bytes old new → ElementLacked limit id ce turns before left old new
@@ -89,32 +91,36 @@ library_ends how id ce turns bytes library instances old new text now (pairs, is
     let same : node_by id ce bytes ≡ first_node id ce library instances = ap (node_given id ce) is ∙ ap (λ e. node e empty) (opened_same id ce library pairs instances moved) in
     node_ends how id ce turns bytes old new text now ((library, pairs), is) (subst (λ (n : NodeState). RunEnds n turns how old new text now) (sym same) ends)
 
--- the report was not written whole
-pub run_stops : (stop : Stop) (end : ElementEnd) (n : NodeState) (turns : ℕ) (events : List HubEvent) (old new : Option Held) (text now : Option (List ℕ)) (written : List ℕ)
-    → IsRun end → ActedSo n turns end events old new → written ≡ element_text n end [] events → AppendsFront text now written
-    → RunEnds n turns (Err stop) old new text now
-run_stops stop end n turns events old new text now written run acted is front =
-    cut_short ElementEnd (RunWent n turns old new) (HubLacked n turns old new) stop end text now written (events, run, acted, is) front
+-- ---- over the hub, once the node was made
 
--- the report on the element that was served was not written whole
-pub report_stops : (stop : Stop) (how : Served) (n : NodeState) (turns : ℕ) (first last : NodeState) (old new : Option Held) (text now : Option (List ℕ)) (written : List ℕ)
-    → ServeEnds (Ok how) turns first last old new → first ≡ n → written ≡ report_of last.element → AppendsFront text now written
-    → RunEnds n turns (Err stop) old new text now
-report_stops stop served.Over n turns first last old new text now written (events, few, went, all, after) begun is front =
-    run_stops stop Done n turns events old new text now written tt (few, rw begun at went, all)
-    (is ∙ ap (λ (m : NodeState). report_of m.element) (after ∙ ap (λ (m : NodeState). node_after m events) begun)) front
-report_stops stop served.Turns n turns first last old new text now written (events, count, went, after) begun is front =
-    run_stops stop Turns n turns events old new text now written tt (count, rw begun at went)
-    (is ∙ ap (λ (m : NodeState). report_of m.element) (after ∙ ap (λ (m : NodeState). node_after m events) begun)) front
+served_went : (how : Served) (n : NodeState) (turns : ℕ) (last : NodeState) (old new : Option Held) → ServeEnds (Ok how) turns n last old new
+    → RunWent n turns old new (end_by how) (report_of last.element)
+served_went served.Over n turns last old new (events, few, went, all, is) = (events, tt, (few, went, all), ap (λ (m : NodeState). report_of m.element) is)
+served_went served.Turns n turns last old new (events, count, went, is) = (events, tt, (count, went), ap (λ (m : NodeState). report_of m.element) is)
 
--- memory lacked while the element was served
-pub run_breaks : (stop : NodeStop) (n : NodeState) (turns : ℕ) (first : NodeState) (old new : Option Held) (known : Option (List ℕ))
-    → (events : List HubEvent) × (length events < turns) × Broke stop old new first events → stop ≡ node_stop.HubFault → first ≡ n → RunEnds n turns (Ok HubFault) old new known known
-run_breaks stop n turns first old new known (events, few, broke) broken begun = ([], (events, tt, (few, rw (broken, begun) at broke), refl), Appends-nil known)
+-- the report on it was written, or a front of that
+pub served_ends : (how : Result ElementEnd Stop) (served : Served) (n : NodeState) (turns : ℕ) (first last : NodeState) (old new : Option Held) (text now : Option (List ℕ)) (end : ElementEnd) (element : ElementState)
+    → ServeEnds (Ok served) turns first last old new → first ≡ n → end ≡ end_by served → element ≡ last.element
+    → IfOk how (λ e. e ≡ end) → OnOk how (Appends text now (report_of element)) → OnErr how (AppendsFront text now (report_of element)) → RunEnds n turns how old new text now
+served_ends how served n turns first last old new text now end element ends begun is same =
+    told_ends ElementEnd (RunWent n turns old new) (HubLacked n turns old new) how end text now (report_of element)
+    (subst (λ x. RunWent n turns old new end (report_of x)) (sym same) (subst (λ e. RunWent n turns old new e (report_of last.element)) (sym is)
+    (subst (λ (m : NodeState). RunWent m turns old new (end_by served) (report_of last.element)) begun (served_went served first turns last old new ends))))
 
-pub run_lacks : (stop : NodeStop) (n : NodeState) (turns : ℕ) (first : NodeState) (old new : Option Held) (known : Option (List ℕ))
-    → (events : List HubEvent) × (length events < turns) × Broke stop old new first events → stop ≡ node_stop.NoMemory → first ≡ n → RunEnds n turns (Err NoMemory) old new known known
-run_lacks stop n turns first old new known (events, few, broke) lacked begun = inr (inr (events, few, rw (lacked, begun) at broke), Appends-nil known)
+-- the hub failed
+pub unserved_ends : (stop : NodeStop) (n : NodeState) (turns : ℕ) (first last : NodeState) (old new : Option Held) (known : Option (List ℕ)) → ServeEnds (Err stop) turns first last old new → stop ≡ node_stop.HubFault
+    → first ≡ n → RunEnds n turns (Ok HubFault) old new known known
+unserved_ends stop n turns first last old new known (events, few, broke) failed begun =
+    subst (λ (m : NodeState). RunEnds m turns (Ok HubFault) old new known known) begun ([], (events, tt, (few, rw failed at broke), refl), Appends-nil known)
+
+-- memory lacked
+pub unserved_lacks : (stop : NodeStop) (n : NodeState) (turns : ℕ) (first last : NodeState) (old new : Option Held) (known : Option (List ℕ)) → ServeEnds (Err stop) turns first last old new → stop ≡ node_stop.NoMemory
+    → first ≡ n → RunEnds n turns (Err NoMemory) old new known known
+unserved_lacks stop n turns first last old new known (events, few, broke) lacked begun =
+    subst (λ (m : NodeState). RunEnds m turns (Err NoMemory) old new known known) begun (inr (inr (events, few, rw lacked at broke), Appends-nil known))
+
+pub begun_lacks : (n : NodeState) (turns : ℕ) (held : Option Held) (known : Option (List ℕ)) → RunEnds n turns (Err NoMemory) held held known known
+begun_lacks n turns held known = inr (inl refl, Appends-nil known)
 
 -- the document means none, for a fault that is told
 pub fault_meant : (f : LibFault) (bytes : List ℕ) → f ≢ fault.Memory → Gives (Err f) (library_of bytes) → library_of bytes ≡ Err f
@@ -127,17 +133,13 @@ fault_meant (fault.Rule r) bytes told given = given
 fault_meant (fault.StepText place) bytes told given = given
 fault_meant fault.Memory bytes told given = absurd (told refl)
 
--- why it means none was written
-pub refused_whole : (f : LibFault) (id ce turns : ℕ) (bytes : List ℕ) (held : Option Held) (text now : Option (List ℕ))
-    → library_of bytes ≡ Err f → Appends text now (refusal_text (codes "library") f) → DocumentEnds id ce turns bytes (Ok Refused) held held text now
-refused_whole f id ce turns bytes held text now is wrote = (refusal_text (codes "library") f, ([], refl, (f, is), refl, ap refused_text (sym is)), wrote)
-
--- why it means none was not written whole
-pub refused_stops : (stop : Stop) (f : LibFault) (id ce turns : ℕ) (bytes : List ℕ) (held : Option Held) (text now : Option (List ℕ))
-    → library_of bytes ≡ Err f → AppendsFront text now (refusal_text (codes "library") f) → DocumentEnds id ce turns bytes (Err stop) held held text now
-refused_stops stop f id ce turns bytes held text now is front =
-    cut_short ElementEnd (DocumentWent id ce turns bytes held held) (DocumentLacked id ce turns bytes held held) stop Refused text now (refusal_text (codes "library") f)
-    ([], refl, (f, is), refl, ap refused_text (sym is)) front
+-- why it means none was written, or a front of that
+pub refused_ends : (how : Result ElementEnd Stop) (f : LibFault) (id ce turns : ℕ) (bytes : List ℕ) (held : Option Held) (text now : Option (List ℕ)) → library_of bytes ≡ Err f
+    → IfOk how (λ end. end ≡ Refused) → OnOk how (Appends text now (refusal_text (codes "library") f)) → OnErr how (AppendsFront text now (refusal_text (codes "library") f))
+    → DocumentEnds id ce turns bytes how held held text now
+refused_ends how f id ce turns bytes held text now is =
+    told_ends ElementEnd (DocumentWent id ce turns bytes held held) (DocumentLacked id ce turns bytes held held) how Refused text now (refusal_text (codes "library") f)
+    ([], refl, (f, is), refl, ap refused_text (sym is))
 
 -- the input can't be read
 pub unread_ends : (how : Look) (limit id ce turns : ℕ) (bytes : List ℕ) (before left : Option (List ℕ)) (held : Option Held) (known : Option (List ℕ))

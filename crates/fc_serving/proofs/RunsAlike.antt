@@ -1,7 +1,6 @@
 -- Two runs of `element` over events that make the same of a node have one ending, with the same acts and the same text.
-use Rattle.std.proofs.Common.{◌≡◌, ◌++◌, ◌∷◌, ℕ, List, refl, sym, ap, subst, ◌∙◌, Option, None, Some, Result, Ok, Err}
+use Rattle.std.proofs.Common.{◌≡◌, ◌++◌, ◌∷◌, ℕ, List, refl, sym, ap, subst, ◌∙◌, Option, Some, Result, Ok, Err}
 use Rattle.std.proofs.lemmas.List.{map-append}
-use Rattle.std.specs.Io.KnownBytes.{Appends}
 use Rattle.fc_element.specs.Reports.{report_of}
 use Rattle.fc_hub.specs.Hubs.{Held, holds}
 use Rattle.fc_hub.specs.declared.event.Act.{Act}
@@ -12,7 +11,7 @@ use Rattle.fc_serving.specs.declared.end.ElementEnd.{ElementEnd}
 use Rattle.fc_serving.specs.declared.end.ElementEnd.TheVariants.{Done, ReadFault, HubFault, Refused, Turns, TooLong}
 use Rattle.fc_endings.specs.declared.stops.Stop.{Stop}
 use Rattle.fc_serving.specs.Serving.{Went}
-use Rattle.fc_serving.specs.ElementNode.{NodeState, acts_of, node_after, node_by}
+use Rattle.fc_serving.specs.ElementNode.{NodeState, acts_of, node_by}
 use Rattle.fc_serving.specs.ElementRun.{ElementEnds, refused_text, report_after}
 use Rattle.fc_serving.specs.Pieces.{MakeTheSame, unnumbered}
 use Rattle.fc_serving.specs.RunsAlike.{EndAlike, IsRunOut, acts_held}

@@ -1,6 +1,6 @@
 -- What `element` reads, does on its hub and writes, by how it ends. This profile's own.
-use Rattle.std.specs.Prelude.{◌≡◌, ◌⊎◌, ◌<◌, ◌≤◌, ◌+◌, ℕ, Bool, true, false, List, [], length, codes, Option, Result, Ok, Err, ⊤}
-use Rattle.std.specs.Io.KnownBytes.{Consumes, IsAtEnd}
+use Rattle.std.specs.Prelude.{◌≡◌, ◌⊎◌, ◌<◌, ◌≤◌, ℕ, Bool, true, false, List, [], length, codes, Option, Result, Ok, Err, ⊤}
+use Rattle.std.specs.Io.KnownBytes.{Consumes}
 use Rattle.fc_hub.specs.Hubs.{Held}
 use Rattle.fc_hub.specs.declared.event.HubEvent.{HubEvent}
 use Rattle.fc_element.specs.Reports.{report_of}
@@ -14,6 +14,8 @@ use Rattle.fc_endings.specs.declared.input.Look.{Look}
 use Rattle.fc_endings.specs.declared.input.Look.TheVariants as look
 use Rattle.fc_endings.specs.declared.stops.Stop.{Stop}
 use Rattle.fc_peers.specs.declared.acting.NodeStop.TheVariants as stop
+use Rattle.fc_serving.specs.declared.serve.Served.{Served}
+use Rattle.fc_serving.specs.declared.serve.Served.TheVariants as served
 use Rattle.fc_serving.specs.Serving.{AreAll, Broke, Went}
 use Rattle.fc_serving.specs.ElementNode.{NodeState, node_after, node_by}
 use Rattle.fc_endings.specs.Endings.{CommandEnds}
@@ -136,6 +138,11 @@ RunWent n turns old new end written =
 
 abbrev pub RunEnds : NodeState → ℕ → Result ElementEnd Stop → Option Held → Option Held → Option (List ℕ) → Option (List ℕ) → Type 0
 RunEnds n turns how old new text now = CommandEnds ElementEnd (RunWent n turns old new) (HubLacked n turns old new) how text now
+
+-- the end of an element whose node ended so
+abbrev pub end_by : Served → ElementEnd
+end_by served.Over = Done
+end_by served.Turns = Turns
 
 -- the ends that tell that the input can't be read, and that the hub failed
 abbrev pub is_unread : ElementEnd → Bool

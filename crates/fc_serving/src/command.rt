@@ -7,7 +7,7 @@ ghost use Rattle.fc_serving.specs.ElementRun.{DocumentEnds, ElementEnds, is_unre
 
 use crate::end::ElementEnd;
 use crate::running::run_element;
-use crate::telling::put_refusal;
+use crate::telling::refuse;
 use fc_base::{CeId, FeId, Sink, Source};
 use fc_endings::{Look, Stop, finished, look_over};
 use fc_hub::Hub;
@@ -81,9 +81,6 @@ fn declared_element<K: Sink, H: Hub>(
             run_element(alloc, fe, ce, library, instances, turns, out, hub)
         }
         Err(LibFault::Memory) => Err(Stop::NoMemory),
-        Err(fault) => match put_refusal(alloc, &fault, out) {
-            Ok(()) => Ok(ElementEnd::Refused),
-            Err(stop) => Err(stop),
-        },
+        Err(fault) => refuse(alloc, &fault, out),
     }
 }

@@ -5,18 +5,28 @@ ghost use Rattle.fc_endings.specs.Endings.{EndCount};
 ghost use Rattle.fc_endings.specs.Stops.{SinkCount};
 ghost use Rattle.fc_types.specs.Libraries.{AreKnown, is_own};
 ghost use Rattle.fc_serving.specs.ElementNode.{first_node};
-ghost use Rattle.fc_serving.specs.ElementRun.{RunEnds, is_unserved};
+ghost use Rattle.fc_serving.specs.ElementRun.{RunEnds, end_by, is_unserved};
 
 use crate::end::ElementEnd;
 use crate::node::Node;
 use crate::serve::{Served, serve};
-use crate::telling::put_report;
+use crate::telling::report;
 use fc_base::{CeId, FeId, Sink};
 use fc_endings::Stop;
 use fc_hub::Hub;
 use fc_peers::NodeStop;
 use fc_types::{Instances, Library};
 use std::alloc::Global;
+
+// How an element ended whose node did so.
+fn ended(served: Served) -> ElementEnd
+    ensures { result ≡ end_by served }
+{
+    match served {
+        Served::Over => ElementEnd::Done,
+        Served::Turns => ElementEnd::Turns,
+    }
+}
 
 // Runs the element over the events of the hub, and writes its report.
 pub(crate) fn run_element<K: Sink, H: Hub>(
@@ -40,14 +50,7 @@ pub(crate) fn run_element<K: Sink, H: Hub>(
         return Err(Stop::NoMemory);
     };
     match serve(&mut node, hub, turns) {
-        Ok(Served::Over) => match put_report(alloc, node.element(), out) {
-            Ok(()) => Ok(ElementEnd::Done),
-            Err(stop) => Err(stop),
-        },
-        Ok(Served::Turns) => match put_report(alloc, node.element(), out) {
-            Ok(()) => Ok(ElementEnd::Turns),
-            Err(stop) => Err(stop),
-        },
+        Ok(served) => report(alloc, ended(served), node.element(), out),
         Err(NodeStop::HubFault) => Ok(ElementEnd::HubFault),
         Err(NodeStop::NoMemory) => Err(Stop::NoMemory),
     }
