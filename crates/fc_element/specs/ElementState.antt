@@ -67,3 +67,7 @@ abbrev pub state_code : Coded ElementState
 state_code =
     code_by Parts (coded× transactions_code (coded× association_map_code (coded× coded_ℕ coded_ℕ)))
     (λ s. (s.transactions, (s.associations, (s.clock, s.last_beat)))) (λ p. record { transactions = p.0; associations = p.1.0; clock = p.1.1.0; last_beat = p.1.1.1 }) (λ _. refl)
+
+-- ---- an element that starts again: it keeps what Configs may change, has no association, and its moment is 0
+abbrev pub restarted : ElementState → ElementState
+restarted s = record { transactions = s.transactions; associations = empty; clock = 0; last_beat = 0 }

@@ -10,7 +10,7 @@ ghost use Rattle.fc_reply.specs.Counting.{each_gets};
 ghost use Rattle.fc_reply.specs.Replies.{reply};
 ghost use Rattle.fc_transactions.specs.Order.{configured};
 ghost use Rattle.fc_element.specs.ElementMachine.{IsProperIn, by_order, down_outs, has_lost, is_due, leaving, moved_on, on_body, on_config, on_message, on_moment, on_query, query_outs, query_selects, remaining_of, settled_in, step, taking};
-ghost use Rattle.fc_element.specs.ElementState.{opened};
+ghost use Rattle.fc_element.specs.ElementState.{opened, restarted};
 ghost use Rattle.fc_element.specs.Reports.{report_of};
 ghost use Rattle.fc_blocks.specs.Settings.{settings_in as settings_of};
 ghost use Rattle.std.specs.FinMap.{remove};
@@ -74,6 +74,15 @@ impl Element {
             last_beat: 0,
             alloc,
         })
+    }
+
+    /// Starts the element again with what it keeps: it has no association then, and its moment is 0. It takes no memory.
+    pub fn restart(&mut self)
+        ensures { self.new ≡ restarted self.old }
+    {
+        self.associations = Associations::new(self.alloc);
+        self.clock = 0;
+        self.last_beat = 0;
     }
 
     /// Takes an input, and gives the messages that it sends, in their order, each of which can be encoded and is decoded as
