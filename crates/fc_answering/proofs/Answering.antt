@@ -1,5 +1,5 @@
 -- What an element becomes and says at a Config is what the protocol says, its kept response too.
-use Rattle.std.proofs.Common.{◌≡◌, ◌≢◌, ℕ, ◌+◌, ◌==◌, ◌&&◌, not, Bool, true, false, cond, List, [], ◌∷◌, ◌++◌, length, Option, Some, None, Err, is_none, if◌then◌else◌, refl, sym, ap, ◌∙◌, subst, arith, append-nil}
+use Rattle.std.proofs.Common.{◌≡◌, ◌≢◌, ◌⊎◌, inl, inr, ℕ, ◌+◌, ◌==◌, ◌&&◌, not, Bool, true, false, cond, List, [], ◌∷◌, ◌++◌, length, Option, Some, None, Err, is_none, if◌then◌else◌, refl, sym, ap, ◌∙◌, subst, arith, append-nil}
 use Rattle.std.specs.List.{flat_map}
 use Rattle.fc_abiding.specs.Abiding.{IsLike, IsNamed, circumstance, heard, seen}
 use Rattle.fc_abiding.specs.Responses.{shown_codes, telling, touched}
@@ -252,7 +252,9 @@ module _ (s : TransactionState) (kept : Option said.Message) (peer : ℕ) (m : M
 
   record At (t : Step) (a : Asked) (v : Verdict) (codes : List ℕ) : Type 0 where
     keeps : AreSame t.state.kept (said_at s kept m selects codes a (body_of count a) v).element.kept
+    kept_is : (t.state.kept ≡ reply m selects codes) ⊎ (t.state.kept ≡ s.kept)
     response : Option Message
+    sent_is : (response ≡ reply m selects codes) ⊎ (response ≡ s.kept)
     notices : List Out
     outs : t.outs ≡ responses peer response ++ notices
     told : AreNotices s peer m notices
@@ -332,13 +334,15 @@ module _ (s : TransactionState) (kept : Option said.Message) (peer : ℕ) (m : M
       → (v ≡ Next → is_epoch s.epoch ≡ true) → (v ≡ Next → (count == 0) ≡ false) → (codes : List ℕ) × At (by_verdict s peer m selects a v) a v codes
   at_by a (Claims e) shape phase plain is later = (
     each_gets 0 selects,
-    record { keeps = one_code m selects 0; response = reply m selects (each_gets 0 selects); notices = []; told = (s.ledger.store.library, [], refl); outs = sym (append-nil (responses peer (reply m selects (each_gets 0 selects)))); says = λ n. one_code m selects 0 },
+    record { keeps = one_code m selects 0; kept_is = inl refl; response = reply m selects (each_gets 0 selects); sent_is = inl refl; notices = []; told = (s.ledger.store.library, [], refl); outs = sym (append-nil (responses peer (reply m selects (each_gets 0 selects)))); says = λ n. one_code m selects 0 },
   )
   at_by a Unclaimed shape phase plain is later = (
     (done (m.source == s.ce) m.flags.at).codes,
     record {
       keeps = same;
+      kept_is = inr refl;
       response = reply m selects (done (m.source == s.ce) m.flags.at).codes;
+      sent_is = inl refl;
       notices = notice_outs (done (m.source == s.ce) m.flags.at).ledger.store.library (route s.id m.source peer) (done (m.source == s.ce) m.flags.at).notices;
       told = ((done (m.source == s.ce) m.flags.at).ledger.store.library, (done (m.source == s.ce) m.flags.at).notices, refl);
       outs = refl;
@@ -347,18 +351,18 @@ module _ (s : TransactionState) (kept : Option said.Message) (peer : ℕ) (m : M
   )
   at_by a Stale shape phase plain is later = (
     each_gets 12 selects,
-    record { keeps = same; response = reply m selects (each_gets 12 selects); notices = notice_outs s.ledger.store.library (route s.id m.source peer) []; told = (s.ledger.store.library, [], refl); outs = refl; says = λ n. one_code m selects 12 },
+    record { keeps = same; kept_is = inr refl; response = reply m selects (each_gets 12 selects); sent_is = inl refl; notices = notice_outs s.ledger.store.library (route s.id m.source peer) []; told = (s.ledger.store.library, [], refl); outs = refl; says = λ n. one_code m selects 12 },
   )
-  at_by a Again shape phase plain is later = ([], record { keeps = same; response = s.kept; notices = []; told = (s.ledger.store.library, [], refl); outs = sym (append-nil (responses peer s.kept)); says = λ n. same })
+  at_by a Again shape phase plain is later = ([], record { keeps = same; kept_is = inr refl; response = s.kept; sent_is = inr refl; notices = []; told = (s.ledger.store.library, [], refl); outs = sym (append-nil (responses peer s.kept)); says = λ n. same })
   at_by a Gap shape phase plain is later = (
     each_gets 16 selects,
-    record { keeps = same; response = reply m selects (each_gets 16 selects); notices = notice_outs s.ledger.store.library (route s.id m.source peer) []; told = (s.ledger.store.library, [], refl); outs = refl; says = λ n. one_code m selects 16 },
+    record { keeps = same; kept_is = inr refl; response = reply m selects (each_gets 16 selects); sent_is = inl refl; notices = notice_outs s.ledger.store.library (route s.id m.source peer) []; told = (s.ledger.store.library, [], refl); outs = refl; says = λ n. one_code m selects 16 },
   )
   at_by a Next shape phase plain is later =
       let d = acts s.id s.epoch s.ledger m selects a in
       let code = (protocol.acts s.id s.epoch (telling s.ledger m selects a d.codes) (body_of count a) s.ledger.records.floor s.ledger.records.entries).code in
       let said = same_reply m selects d.codes code (acts_long s.id s.epoch s.ledger m selects a shape) (acts_told s.id s.epoch s.ledger m selects named.records (is refl) a count shape (later refl)) in
-      (d.codes, record { keeps = said; response = reply m selects d.codes; notices = notice_outs d.ledger.store.library (route s.id m.source peer) d.notices; told = (d.ledger.store.library, d.notices, refl); outs = refl; says = λ n. said })
+      (d.codes, record { keeps = said; kept_is = inl refl; response = reply m selects d.codes; sent_is = inl refl; notices = notice_outs d.ledger.store.library (route s.id m.source peer) d.notices; told = (d.ledger.store.library, d.notices, refl); outs = refl; says = λ n. said })
 
   asked_phase : (at : Bool) → m.flags.at ≡ at → (at ≡ true → PhaseIs (asked_of m selects)) × (at ≡ false → Unflagged (asked_of m selects))
   asked_phase true e = (
@@ -390,8 +394,10 @@ module _ (s : TransactionState) (kept : Option said.Message) (peer : ℕ) (m : M
         record {
           state = all.state;
           kept = subst (λ (g : Heard). AreSame (configured s peer m selects).state.kept g.element.kept) is at.keeps;
+          keeps = at.kept_is;
           facts = all.facts;
           response = at.response;
+          sends = at.sent_is;
           notices = at.notices;
           outs = at.outs;
           told = at.told;

@@ -1,5 +1,5 @@
 -- An element that goes by its fence as the protocol of transactions sees it, its kept response too: RFC 5810, sections 6.1 and 7.6.2. Fence, claims and the kept response are this profile's own.
-use Rattle.std.specs.Prelude.{◌≡◌, ◌≢◌, ℕ, ◌==◌, ◌&&◌, Bool, true, false, List, [], ◌++◌, Option, Some, None}
+use Rattle.std.specs.Prelude.{◌≡◌, ◌≢◌, ◌⊎◌, ℕ, ◌==◌, ◌&&◌, Bool, true, false, List, [], ◌++◌, Option, Some, None}
 use Rattle.std.specs.List.{flat_map}
 use Rattle.fc_abiding.specs.Abiding.{IsLike}
 use Rattle.fc_abiding.specs.Responses.{telling}
@@ -24,6 +24,7 @@ use Rattle.fc_protocol.specs.Messages.{stamp}
 use Rattle.fc_protocol.specs.OneElement.{Arrival, hears_all}
 use Rattle.fc_protocol.specs.declared.verdict.Verdict.{Verdict}
 use Rattle.fc_protocol.specs.declared.verdict.Verdict.TheVariants.{Claim as Claims, Unclaimed, Stale, Again, Gap, Next}
+use Rattle.fc_reply.specs.Replies.{reply}
 use Rattle.fc_transactions.specs.Order.{asked_of, configured, judged}
 use Rattle.fc_transactions.specs.State.{TransactionState}
 use Rattle.fc_types.specs.declared.class.Class.{Class}
@@ -96,12 +97,15 @@ heard_of s before m selects codes = hears s.id (keeping s before) m.source (tell
 abbrev pub AreNotices : TransactionState → ℕ → Message → List Out → Type 0
 AreNotices s peer m outs = (library : List Class) × (notices : List Notice) × (outs ≡ notice_outs library (route s.id m.source peer) notices)
 
--- what an element with this kept reply becomes and says at a Config is what the protocol says: first the response, and then notices of events alone
+-- what an element with this kept reply becomes and says at a Config is what the protocol says: first the response, and then notices of events alone. The reply that it keeps, and the response, are the one with
+-- these codes, or the one that it kept before.
 pub record Answers (s : TransactionState) (before : Option said.Message) (peer : ℕ) (m : Message) (selects : List Select) (codes : List ℕ) : Type 0 where
   pub state : IsLike (configured s peer m selects).state (heard_of s before m selects codes).element
   pub kept : AreSame (configured s peer m selects).state.kept (heard_of s before m selects codes).element.kept
+  pub keeps : ((configured s peer m selects).state.kept ≡ reply m selects codes) ⊎ ((configured s peer m selects).state.kept ≡ s.kept)
   pub facts : bare_facts (configured s peer m selects).facts ≡ (heard_of s before m selects codes).facts
   pub response : Option Message
+  pub sends : (response ≡ reply m selects codes) ⊎ (response ≡ s.kept)
   pub notices : List Out
   pub outs : (configured s peer m selects).outs ≡ responses peer response ++ notices
   pub told : AreNotices s peer m notices

@@ -1,6 +1,6 @@
 -- What an element answers to the questions of a master, and what the master reads.
 use Rattle.std.proofs.Common.{◌≡◌, ℕ, ◌^◌, ◌<◌, ◌==◌, ◌&&◌, Bool, true, if◌then◌else◌, List, [], ◌∷◌, map, Option, Some, None, option_and_then, Result, Ok, refl, sym, ap, ap₂, ◌∙◌, arith, rules}
-use Rattle.std.specs.List.{filter}
+use Rattle.std.specs.List.{filter, flat_map}
 use Rattle.fc_answering.specs.Mastership.{HasMastership}
 use Rattle.fc_asks.specs.Holdings.{entry_read, held_by, held_read, seen_in, seen_of}
 use Rattle.fc_asks.specs.Queries.{epoch_in, full_layer, full_of, held_bodies, held_meaning, holds, query_meaning, record_bodies, record_in, record_layer, record_meaning, tells}
@@ -14,6 +14,8 @@ use Rattle.fc_ops.specs.Asking.{in_full, seen_now, value_content}
 use Rattle.fc_ops.specs.Filling.{content_body}
 use Rattle.fc_ops.specs.declared.offers.Content.{Content}
 use Rattle.fc_ops.specs.declared.offers.Content.TheVariants as content
+use Rattle.fc_path.specs.Leaves.{select_leaves}
+use Rattle.fc_path.specs.declared.oper.Select.{Select}
 use Rattle.fc_path.specs.declared.path.Body.{out-Body, the_lemmas}
 use Rattle.fc_path.specs.declared.path.Body.TheOpen.{Body-F}
 use Rattle.fc_path.specs.declared.path.Body.TheVariants as body
@@ -33,7 +35,7 @@ use Rattle.fc_value.specs.Writing.{full_bytes}
 use Rattle.fc_value.specs.declared.value.Value.{Value}
 use Rattle.fc_wire.specs.Bytes.{u32_at, u32_bytes}
 use Rattle.fc_querying.specs.Asking.{IsAskable, IsTold, IsTxn, answer_to, held_query, record_query}
-use Rattle.fc_querying.proofs.Filling.{answer_is, epoch_spot, leaves_are, other_spot}
+use Rattle.fc_querying.proofs.Filling.{answer_is, epoch_spot, leaves_are, other_spot, says}
 use Rattle.fc_querying.proofs.Finding.{Stands, found_none, found_record, key_step, stands}
 use Rattle.fc_querying.proofs.Records.{all_rows, back_at, epoch_small, front_at, held_all, held_distinct, held_rows, name_of, row, row_read, rows, table_is, table_read, told_small}
 use Rattle.fc_querying.proofs.Sizes.{FewIn, full_few, key_few, no_key_few, record_long, refused_few, table_long}
@@ -71,7 +73,7 @@ epoch_content s is =
 epoch_few : (n : ℕ) → FewIn 19 (content.Full (u32_bytes n))
 epoch_few n = full_few 12 (u32_bytes n) (omega arith) (omega arith)
 
-abbrev held_bytes : TransactionState → List ℕ
+abbrev pub held_bytes : TransactionState → List ℕ
 held_bytes s = full_bytes transactions_type (table (rows (held s.ledger.records.entries)))
 
 held_content : (s : TransactionState) → HasMastership s.ledger.store
@@ -109,15 +111,21 @@ held_is_read s is =
     ∙ ap held_read (full_read transactions_type (table (rows (held ns))) (held_bytes s) (full_canon transactions_type (table (rows (held ns))) transactions_sound fits))
     ∙ table_read ns is.records.each
 
+-- what its answer to the question for what is held says of the two components
+pub held_leaves : (s : TransactionState) → IsAskable s
+    → flat_map select_leaves (answer_to s held_query) ≡ says epoch_spot (content.Full (u32_bytes s.epoch)) ∷ says (other_spot components.held None) (content.Full (held_bytes s)) ∷ []
+held_leaves s is =
+    let e : Content = content.Full (u32_bytes s.epoch) in
+    let h : Content = content.Full (held_bytes s) in
+    ap (λ (ss : List Select). flat_map select_leaves ss)
+    (answer_is (told_value (told_of s)) s.ledger.store s.ledger.subscriptions components.held None e h (epoch_content s is) (held_content s is.mastership)
+    (no_key_few.0, omega (arith, no_key_few.1)) (epoch_few s.epoch) (held_few s is))
+    ∙ leaves_are components.held None e h
+
 -- the answer to the question for what is held
 pub held_answered : (s : TransactionState) (m : Stamp) → IsAskable s → query_meaning Ask m (answer_to s held_query) ≡ Holds m s.epoch (listed s.ledger.records.entries)
 held_answered s m is =
-    let e : Content = content.Full (u32_bytes s.epoch) in
-    let h : Content = content.Full (held_bytes s) in
-    ap (query_meaning Ask m)
-    (answer_is (told_value (told_of s)) s.ledger.store s.ledger.subscriptions components.held None e h (epoch_content s is) (held_content s is.mastership)
-    (no_key_few.0, omega (arith, no_key_few.1)) (epoch_few s.epoch) (held_few s is))
-    ∙ ap (held_meaning transactions_type m) (leaves_are components.held None e h)
+    ap (held_meaning transactions_type m) (held_leaves s is)
     ∙ ap (λ (o : Option ℕ). held_bodies transactions_type m o (full_of (body.Full (held_bytes s)))) (epoch_read s.epoch is.epoch)
     ∙ ap (holds m s.epoch) (held_is_read s is)
 
@@ -172,15 +180,25 @@ named_key x t = ap₂ (λ (a b : ℕ). (a == x.epoch) && (b == x.number)) (front
     itself : (n : ℕ) → (n == n) ≡ true
     itself n = grind arith
 
+-- what its answer to the question for a record says of the two components
+leaves_of : (s : TransactionState) (x : Txn) → IsAskable s → (r : TellsOf s x)
+    → flat_map select_leaves (answer_to s (record_query x)) ≡ says epoch_spot (content.Full (u32_bytes s.epoch)) ∷ says (other_spot components.transactions (record_key x)) r.content ∷ []
+leaves_of s x is r =
+    let e : Content = content.Full (u32_bytes s.epoch) in
+    ap (λ (ss : List Select). flat_map select_leaves ss)
+    (answer_is (told_value (told_of s)) s.ledger.store s.ledger.subscriptions components.transactions (record_key x) e r.content (epoch_content s is) (record_content_is s x is.mastership ∙ r.is)
+    (key_few (name_of x) refl) (epoch_few s.epoch) r.few)
+    ∙ leaves_are components.transactions (record_key x) e r.content
+
+pub record_leaves : (s : TransactionState) (x : Txn) → IsAskable s → IsTxn x
+    → (c : Content) × (flat_map select_leaves (answer_to s (record_query x)) ≡ says epoch_spot (content.Full (u32_bytes s.epoch)) ∷ says (other_spot components.transactions (record_key x)) c ∷ [])
+record_leaves s x is t = let r = tells_of s x (state_of x s.ledger.records.entries) is t refl in (r.content, leaves_of s x is r)
+
 -- the answer to the question for a record
 pub record_answered : (s : TransactionState) (x : Txn) (m : Stamp) → IsAskable s → IsTxn x → query_meaning (Ask_record x) m (answer_to s (record_query x)) ≡ Tells m x s.epoch (seen (state_of x s.ledger.records.entries))
 record_answered s x m is t =
-    let e : Content = content.Full (u32_bytes s.epoch) in
     let r = tells_of s x (state_of x s.ledger.records.entries) is t refl in
-    ap (query_meaning (Ask_record x) m)
-    (answer_is (told_value (told_of s)) s.ledger.store s.ledger.subscriptions components.transactions (record_key x) e r.content (epoch_content s is) (record_content_is s x is.mastership ∙ r.is)
-    (key_few (name_of x) refl) (epoch_few s.epoch) r.few)
-    ∙ ap (record_meaning transaction_type x m) (leaves_are components.transactions (record_key x) e r.content)
+    ap (record_meaning transaction_type x m) (leaves_of s x is r)
     ∙ ap (λ (b : Bool). if b then record_bodies transaction_type m x (epoch_in (full_of (body.Full (u32_bytes s.epoch)))) (content_body r.content) else Unread m None) (named_key x t)
     ∙ ap (λ (o : Option ℕ). record_bodies transaction_type m x o (content_body r.content)) (epoch_read s.epoch is.epoch)
     ∙ ap (tells m x s.epoch) r.read

@@ -1,6 +1,8 @@
 -- The questions of a master are answered by one message.
 use Rattle.std.proofs.Common.{◌≡◌, ℕ, ◌==◌, true, List, [], ◌∷◌, Option, None, refl, ap, ap₂, ◌∙◌, arith}
 use Rattle.fc_asks.specs.Requests.{request_of}
+use Rattle.fc_asks.specs.declared.life.Life.{Life}
+use Rattle.fc_base.specs.Ids.{Txn}
 use Rattle.fc_element.specs.ElementMachine.{answer_with, id_of, step}
 use Rattle.fc_element.specs.ElementState.{ElementState}
 use Rattle.fc_element.specs.declared.input.ElIn.TheVariants.{Arrived}
@@ -48,16 +50,28 @@ pub record IsOwn (s : ElementState) (ce : ℕ) (m : Message) (selects : List Sel
   pub dest : m.dest ≡ id_of s
   pub body : m.body ≡ Query selects
 
-sent : (s : ElementState) (peer : ℕ) (m : Message) (selects : List Select) (ce : ℕ) → IsAssociated s ce → IsOwn s ce m selects → results_fit selects ≡ true
-    → ((step s (Arrived peer m)).outs ≡ out peer (answer_with m (QueryResponse (answer_to s.transactions selects))) ∷ []) × ((step s (Arrived peer m)).state.transactions ≡ s.transactions)
+-- the element answers it at once with the answer to these selects, and of what Configs change nothing is changed
+abbrev pub AnswersAtOnce : ElementState → ℕ → Message → List Select → Type 0
+AnswersAtOnce s peer m selects =
+    ((step s (Arrived peer m)).outs ≡ out peer (answer_with m (QueryResponse (answer_to s.transactions selects))) ∷ []) × ((step s (Arrived peer m)).state.transactions ≡ s.transactions)
+
+sent : (s : ElementState) (peer : ℕ) (m : Message) (selects : List Select) (ce : ℕ) → IsAssociated s ce → IsOwn s ce m selects → results_fit selects ≡ true → AnswersAtOnce s peer m selects
 unfolding step
 sent s peer m selects ce a own fits =
     let own_id : (m.dest == id_of s) ≡ true = ap (λ (n : ℕ). n == id_of s) own.dest ∙ itself (id_of s) in
     (rw (own.body, own.source, a.control, a.associated, fits, own_id) refl, rw (own.body, own.source, a.control, a.associated) refl)
 
+pub held_at_once : (s : ElementState) (peer corr : ℕ) (life : Life) → IsAssociated s life.ce → AnswersAtOnce s peer (request_of life (id_of s) corr Ask) held_query
+held_at_once s peer corr life a =
+    sent s peer (request_of life (id_of s) corr Ask) held_query life.ce a (record { source = refl; dest = refl; body = refl }) (fits_blank components.held None (no_key_few.0, omega (arith, no_key_few.1)))
+
+pub record_at_once : (s : ElementState) (peer corr : ℕ) (life : Life) (x : Txn) → IsAssociated s life.ce → AnswersAtOnce s peer (request_of life (id_of s) corr (Ask_record x)) (record_query x)
+record_at_once s peer corr life x a =
+    sent s peer (request_of life (id_of s) corr (Ask_record x)) (record_query x) life.ce a (record { source = refl; dest = refl; body = refl }) (fits_blank components.transactions (record_key x) (key_few (subject_bytes x) refl))
+
 pub held_sent : (s : ElementState) → IsAskable s.transactions → AnswersHeld s
 held_sent s is peer corr life a =
-    let t = sent s peer (request_of life (id_of s) corr Ask) held_query life.ce a (record { source = refl; dest = refl; body = refl }) (fits_blank components.held None (no_key_few.0, omega (arith, no_key_few.1))) in record {
+    let t = held_at_once s peer corr life a in record {
       selects = answer_to s.transactions held_query;
       outs = t.0;
       stays = t.1;
@@ -67,7 +81,7 @@ held_sent s is peer corr life a =
 
 pub record_sent : (s : ElementState) → IsAskable s.transactions → AnswersRecords s
 record_sent s is peer corr life x a named =
-    let t = sent s peer (request_of life (id_of s) corr (Ask_record x)) (record_query x) life.ce a (record { source = refl; dest = refl; body = refl }) (fits_blank components.transactions (record_key x) (key_few (subject_bytes x) refl)) in record {
+    let t = record_at_once s peer corr life x a in record {
       selects = answer_to s.transactions (record_query x);
       outs = t.0;
       stays = t.1;

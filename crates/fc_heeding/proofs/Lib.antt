@@ -1,0 +1,4 @@
+pub mod Asking
+pub mod Changing
+pub mod Shaped
+pub mod Spelled
