@@ -1,0 +1,12 @@
+pub mod Speaking
+pub mod Pairs
+pub mod Nodes
+pub mod Controllers
+pub mod Facts
+pub mod Lasting
+pub mod Elements
+pub mod Requests
+pub mod Masters
+pub mod Happens
+pub mod Steps
+pub mod Runs

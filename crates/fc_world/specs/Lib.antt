@@ -1,0 +1,4 @@
+pub mod Lookups
+pub mod Stages
+pub mod WorldSteps
+pub mod Worlds
