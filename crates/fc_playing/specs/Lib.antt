@@ -1,0 +1,4 @@
+pub mod Playing
+pub mod WorldRun
+pub mod Runs
+pub mod Outcomes
