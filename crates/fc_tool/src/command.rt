@@ -7,8 +7,6 @@ ghost use Rattle.fc_words.specs.declared.commands.Command.TheVariants as meant;
 ghost use Rattle.fc_endings.specs.declared.stops.Stop.{Stop};
 ghost use Rattle.fc_controlling.specs.ControlRun.{control_status};
 ghost use Rattle.fc_controlling.specs.Runs.{ControlRuns};
-ghost use Rattle.fc_playing.specs.Runs.{PlayRuns};
-ghost use Rattle.fc_playing.specs.WorldRun.{play_status};
 ghost use Rattle.fc_serving.specs.ElementRun.{element_status};
 ghost use Rattle.fc_serving.specs.Runs.{ElementRuns};
 ghost use Rattle.fc_endings.specs.Limits.{most_bytes};
@@ -28,7 +26,6 @@ use fc_base::{CeId, List, Sink, Source, Text};
 use fc_controlling::{Asked, ControlEnd, control};
 use fc_endings::{Stop, finish, put};
 use fc_hub::{Hub, Rounds};
-use fc_playing::{PlayEnd, world};
 use fc_serving::{ElementEnd, element};
 use fc_words::{Command, WordFault, command};
 use std::alloc::Global;
@@ -56,9 +53,6 @@ pub fn run<S: Source, K: Sink, H: Hub, R: Rounds>(
         (Rose (S.faults input.old) (S.faults input.new)) (Rose (K.faults out.old) (K.faults out.new)) }
     ensures make { command_of (map string_bytes words.now) ≡ Some meant.Make
         → MakeRuns most_bytes result (S.left input.old) (S.left input.new) (K.written out.old) (K.written out.new)
-        (Rose (S.faults input.old) (S.faults input.new)) (Rose (K.faults out.old) (K.faults out.new)) }
-    ensures world { command_of (map string_bytes words.now) ≡ Some meant.World
-        → PlayRuns most_bytes result (S.left input.old) (S.left input.new) (K.written out.old) (K.written out.new)
         (Rose (S.faults input.old) (S.faults input.new)) (Rose (K.faults out.old) (K.faults out.new)) }
     ensures element { (fe ce : ℕ) (address : List ℕ) (connections turns : ℕ)
         → command_of (map string_bytes words.now) ≡ Some (meant.Element fe ce address connections turns)
@@ -100,7 +94,6 @@ pub fn run<S: Source, K: Sink, H: Hub, R: Rounds>(
     match meant {
         Command::Show => show_status(show(alloc, input, out)),
         Command::Make => make_status(make(alloc, input, out)),
-        Command::World => play_status(world(alloc, input, out)),
         Command::Element { fe, ce, turns, .. } => {
             element_status(element(alloc, fe, ce, turns, input, out, hub))
         }
@@ -167,19 +160,6 @@ fn make_status(how: Result<Made, Stop>) -> u8
         Ok(Made::ReadFault) => READ_FAULT,
         Ok(Made::Refused) => REFUSED,
         Ok(Made::TooLong) => TOO_LONG,
-        Err(Stop::WriteFault) => WRITE_FAULT,
-        Err(Stop::NoMemory) => NO_MEMORY,
-    }
-}
-
-fn play_status(how: Result<PlayEnd, Stop>) -> u8
-    ensures { result ≡ play_status how }
-{
-    match how {
-        Ok(PlayEnd::Done) => DONE,
-        Ok(PlayEnd::ReadFault) => READ_FAULT,
-        Ok(PlayEnd::Refused) => REFUSED,
-        Ok(PlayEnd::TooLong) => TOO_LONG,
         Err(Stop::WriteFault) => WRITE_FAULT,
         Err(Stop::NoMemory) => NO_MEMORY,
     }

@@ -1,8 +1,7 @@
 use Rattle.std.proofs.Common.{◌∙◌, ap, Some}
 use Rattle.fc_controlling.proofs.Statuses.{control_none, control_runs}
-use Rattle.fc_playing.proofs.Statuses.{play_none, play_runs}
 use Rattle.fc_serving.proofs.Statuses.{element_none, element_runs}
-use Rattle.fc_tool.proofs.Commands.{element_or_control, element_or_make, make_none, make_or_control, make_runs, not_both, one_control, one_element, show_none, show_or_control, show_or_make, show_runs, usage_none, world_or_control, world_or_element, world_or_make, world_or_show}
+use Rattle.fc_tool.proofs.Commands.{element_or_control, element_or_make, make_none, make_or_control, make_runs, not_both, one_control, one_element, show_none, show_or_control, show_or_make, show_runs, usage_none}
 use Rattle.fc_tool.proofs.command.run.Goals as goal
 
 pub returns-in-Err-Memory-clause-usage : goal.returns-in-Err-Memory-clause-usage
@@ -13,9 +12,6 @@ returns-in-Err-Memory-clause-show g c is = show_none _ _ _ _ _
 
 pub returns-in-Err-Memory-clause-make : goal.returns-in-Err-Memory-clause-make
 returns-in-Err-Memory-clause-make g c is = make_none _ _ _ _ _
-
-pub returns-in-Err-Memory-clause-world : goal.returns-in-Err-Memory-clause-world
-returns-in-Err-Memory-clause-world g c is = play_none _ _ _ _ _
 
 pub returns-in-Err-Memory-clause-element : goal.returns-in-Err-Memory-clause-element
 returns-in-Err-Memory-clause-element g c fe ce address connections turns is = element_none _ fe ce turns _ _ _ _ _ _
@@ -31,9 +27,6 @@ returns-in-Show-clause-show g c is = show_runs c.show.result _ _ _ _ _ _ _ _ _ _
 pub returns-in-Show-clause-make : goal.returns-in-Show-clause-make
 returns-in-Show-clause-make g c is = absurd (show_or_make _ (c.in-Ok.ensures.exact ∙ ap (λ m. Some m) c.in-Show.is) is)
 
-pub returns-in-Show-clause-world : goal.returns-in-Show-clause-world
-returns-in-Show-clause-world g c is = absurd (world_or_show _ is (c.in-Ok.ensures.exact ∙ ap (λ m. Some m) c.in-Show.is))
-
 pub returns-in-Show-clause-element : goal.returns-in-Show-clause-element
 returns-in-Show-clause-element g c fe ce address connections turns is = absurd (not_both _ _ _ _ _ _ is (c.in-Ok.ensures.exact ∙ ap (λ m. Some m) c.in-Show.is))
 
@@ -48,31 +41,11 @@ returns-in-Make-clause-show g c is = absurd (show_or_make _ is (c.in-Ok.ensures.
 pub returns-in-Make-clause-make : goal.returns-in-Make-clause-make
 returns-in-Make-clause-make g c is = make_runs c.make.result _ _ _ _ _ _ _ _ _ _ c.make_status.ensures c.make.ensures.ends c.make.ensures.source c.make.ensures.sink
 
-pub returns-in-Make-clause-world : goal.returns-in-Make-clause-world
-returns-in-Make-clause-world g c is = absurd (world_or_make _ is (c.in-Ok.ensures.exact ∙ ap (λ m. Some m) c.in-Make.is))
-
 pub returns-in-Make-clause-element : goal.returns-in-Make-clause-element
 returns-in-Make-clause-element g c fe ce address connections turns is = absurd (element_or_make _ _ _ _ _ _ is (c.in-Ok.ensures.exact ∙ ap (λ m. Some m) c.in-Make.is))
 
 pub returns-in-Make-clause-control : goal.returns-in-Make-clause-control
 returns-in-Make-clause-control g c ce rounds connections turns addresses is = absurd (make_or_control _ _ _ _ _ _ is (c.in-Ok.ensures.exact ∙ ap (λ m. Some m) c.in-Make.is))
-
--- ---- `world`
-
-pub returns-in-World-clause-show : goal.returns-in-World-clause-show
-returns-in-World-clause-show g c is = absurd (world_or_show _ (c.in-Ok.ensures.exact ∙ ap (λ m. Some m) c.in-World.is) is)
-
-pub returns-in-World-clause-make : goal.returns-in-World-clause-make
-returns-in-World-clause-make g c is = absurd (world_or_make _ (c.in-Ok.ensures.exact ∙ ap (λ m. Some m) c.in-World.is) is)
-
-pub returns-in-World-clause-world : goal.returns-in-World-clause-world
-returns-in-World-clause-world g c is = play_runs c.world.result _ _ _ _ _ _ _ _ _ _ c.play_status.ensures c.world.ensures.ends c.world.ensures.source c.world.ensures.sink
-
-pub returns-in-World-clause-element : goal.returns-in-World-clause-element
-returns-in-World-clause-element g c fe ce address connections turns is = absurd (world_or_element _ _ _ _ _ _ (c.in-Ok.ensures.exact ∙ ap (λ m. Some m) c.in-World.is) is)
-
-pub returns-in-World-clause-control : goal.returns-in-World-clause-control
-returns-in-World-clause-control g c ce rounds connections turns addresses is = absurd (world_or_control _ _ _ _ _ _ (c.in-Ok.ensures.exact ∙ ap (λ m. Some m) c.in-World.is) is)
 
 -- ---- `element`
 
@@ -81,9 +54,6 @@ returns-in-Element-clause-show g c is = absurd (not_both _ _ _ _ _ _ (c.in-Ok.en
 
 pub returns-in-Element-clause-make : goal.returns-in-Element-clause-make
 returns-in-Element-clause-make g c is = absurd (element_or_make _ _ _ _ _ _ (c.in-Ok.ensures.exact ∙ ap (λ m. Some m) c.in-Element.is) is)
-
-pub returns-in-Element-clause-world : goal.returns-in-Element-clause-world
-returns-in-Element-clause-world g c is = absurd (world_or_element _ _ _ _ _ _ is (c.in-Ok.ensures.exact ∙ ap (λ m. Some m) c.in-Element.is))
 
 pub returns-in-Element-clause-element : goal.returns-in-Element-clause-element
 returns-in-Element-clause-element g c fe ce address connections turns is =
@@ -101,9 +71,6 @@ returns-clause-show g c is = absurd (show_or_control _ _ _ _ _ _ (c.in-Ok.ensure
 
 pub returns-clause-make : goal.returns-clause-make
 returns-clause-make g c is = absurd (make_or_control _ _ _ _ _ _ (c.in-Ok.ensures.exact ∙ ap (λ m. Some m) c.in-Control.is) is)
-
-pub returns-clause-world : goal.returns-clause-world
-returns-clause-world g c is = absurd (world_or_control _ _ _ _ _ _ is (c.in-Ok.ensures.exact ∙ ap (λ m. Some m) c.in-Control.is))
 
 pub returns-clause-element : goal.returns-clause-element
 returns-clause-element g c fe ce address connections turns is = absurd (element_or_control _ _ _ _ _ _ _ _ _ _ _ (c.in-Ok.ensures.exact ∙ ap (λ m. Some m) c.in-Control.is) is)

@@ -1,4 +1,0 @@
-pub mod Deciding
-pub mod Ending
-pub mod Steps
-pub mod Statuses

@@ -1,4 +1,0 @@
-pub mod Playing
-pub mod WorldRun
-pub mod Runs
-pub mod Outcomes
