@@ -18,7 +18,7 @@ _forces() {
   esac
   local -a offered=()
   case $COMP_CWORD:${COMP_WORDS[1]-} in
-    1:*) offered=(show make element control) ;;
+    1:*) offered=(show make element control world) ;;
     2:control | 3:element) offered=(40000001) ;;
     4:element) offered=(127.0.0.1:6653 0.0.0.0:6653) ;;
     3:control)

@@ -6,7 +6,7 @@ use Rattle.fc_base.specs.Hex.{hex}
 use Rattle.fc_base.specs.Ids.{IsFe, IsCe}
 use Rattle.fc_words.specs.Numbers.{decimal_up_to, ce_of}
 use Rattle.fc_words.specs.declared.commands.Command.{Command}
-use Rattle.fc_words.specs.declared.commands.Command.TheVariants.{Control, Element, Make, Show}
+use Rattle.fc_words.specs.declared.commands.Command.TheVariants.{Control, Element, Make, Show, World}
 use Rattle.fc_words.specs.declared.commands.WordFault.{WordFault}
 use Rattle.fc_words.specs.declared.commands.WordFault.TheVariants.{NoCommand, Memory}
 
@@ -88,6 +88,7 @@ abbrev pub named : List ℕ → List (List ℕ) → Option Command
 named name words =
     if bytes_eq name (codes "show") then alone Show words
     else if bytes_eq name (codes "make") then alone Make words
+    else if bytes_eq name (codes "world") then alone World words
     else if bytes_eq name (codes "element") then element words
     else if bytes_eq name (codes "control") then control words
     else None

@@ -11,6 +11,8 @@ pub enum Command {
     Show,
     /// Writes each message of the text that comes in as bytes.
     Make,
+    /// Plays the script of a whole network element that comes in, and writes the report.
+    World,
     /// Runs a forwarding element.
     Element {
         /// The element's own ID.

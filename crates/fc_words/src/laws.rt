@@ -5,7 +5,7 @@ ghost use Rattle.fc_base.specs.Hex.{hex};
 ghost use Rattle.fc_base.specs.Ids.{IsCe};
 ghost use Rattle.fc_words.specs.Commands.{IsControl, IsElement, command_of};
 ghost use Rattle.fc_words.specs.Numbers.{decimal_up_to, ce_of};
-ghost use Rattle.fc_words.specs.declared.commands.Command.TheVariants.{Control, Show, Make, Element};
+ghost use Rattle.fc_words.specs.declared.commands.Command.TheVariants.{Control, Show, Make, World, Element};
 
 /// A word spells a number in decimal exactly where it is what is written for that number, and the number is in its range.
 pub fn decimal_words()
@@ -27,6 +27,11 @@ pub fn words_of_show()
 /// The one word `make` means `make`, and no other words do.
 pub fn words_of_make()
     ensures { (words : List (List ℕ)) → command_of words ≡ Some Make ↔ words ≡ codes "make" ∷ [] }
+{}
+
+/// The one word `world` means `world`, and no other words do.
+pub fn words_of_world()
+    ensures { (words : List (List ℕ)) → command_of words ≡ Some World ↔ words ≡ codes "world" ∷ [] }
 {}
 
 /// Words mean `element` with some values exactly where they are its name and what is written for these values.

@@ -12,6 +12,6 @@ mod values;
 pub use commands::{Command, WordFault};
 pub use laws::{
     controller_words, decimal_words, words_of_control, words_of_element, words_of_make,
-    words_of_show,
+    words_of_show, words_of_world,
 };
 pub use reading::command;
