@@ -1,6 +1,6 @@
 -- The jobs that rest: nothing that comes changes them, and nothing is due for them.
 use Rattle.std.proofs.Common.{◌≡◌, ℕ, ◌+◌, ◌≤◌, ◌<◌, ◌==◌, ◌&&◌, ◌||◌, Bool, true, false, not, nat_lt, zero, suc, cond, List, [], ◌∷◌, ◌++◌, map, take, drop, length, get_or, Option, Some, None, is_some, is_none, refl, sym, ap, ◌∙◌, arith}
-use Rattle.std.proofs.lemmas.Bool.{eqb-true}
+use Rattle.std.proofs.lemmas.Bool.{and_from, eqb-true}
 use Rattle.std.proofs.lemmas.List.{append_assoc, map-append, take-append-drop}
 use Rattle.std.specs.List.{list_all}
 use Rattle.fc_base.specs.Ids.{Txn}
@@ -18,28 +18,18 @@ use Rattle.fc_jobs.specs.JobViews.{job_of, jobs_of}
 use Rattle.fc_jobs.specs.Seats.{alone, elements_of}
 use Rattle.fc_jobs.specs.Sending.{Begun, core_by}
 use Rattle.fc_jobs.proofs.Finishing.{finished}
+use Rattle.fc_jobs.proofs.Seating.{and_first, and_second}
+use Rattle.fc_master.proofs.Changing.{all_decided}
 use Rattle.fc_master.specs.Refusals.{peer_refusal}
 use Rattle.fc_master.specs.declared.resting.Jobs.{Jobs}
 use Rattle.fc_master.specs.Resting.{DoneTo, LeavesAlone, is_beyond, is_done, is_early, named, rests, with_tail}
-
-first_true : (a b : Bool) → (a && b) ≡ true → a ≡ true
-first_true true b e = refl
-first_true false b e = e
-
-second_true : (a b : Bool) → (a && b) ≡ true → b ≡ true
-second_true true b e = e
-second_true false b e = cc
-
-both_true : (a b : Bool) → a ≡ true → b ≡ true → (a && b) ≡ true
-both_true true b e f = f
-both_true false b e f = cc
 
 -- what rests is done
 pub done_of : (e n : ℕ) (js : List Work) → list_all (rests e n) js ≡ true → list_all is_done js ≡ true
 done_of e n [] r = refl
 done_of e n (j ∷ js) r =
-    let here = first_true (rests e n j) (list_all (rests e n) js) r in
-    both_true (is_done j) (list_all is_done js) (first_true (is_done j) (is_early e n j) here) (done_of e n js (second_true (rests e n j) (list_all (rests e n) js) r))
+    let here = and_first (rests e n j) (list_all (rests e n) js) r in
+    and_from (is_done j) (list_all is_done js) (and_first (is_done j) (is_early e n j) here) (done_of e n js (and_second (rests e n j) (list_all (rests e n) js) r))
 
 -- Of one job
 
@@ -50,7 +40,7 @@ settled_or f p q false m e h r t = r t
 settled_there : (j : Work) (ps : List ℕ) (p : ℕ) → all_settled j ps ≡ true → among p ps ≡ true → j.settled p ≡ true
 settled_there j [] p a m = cc
 settled_there j (q ∷ ps) p a m =
-    settled_or j.settled p q (p == q) (among p ps) refl (first_true (j.settled q) (all_settled j ps) a) (settled_there j ps p (second_true (j.settled q) (all_settled j ps) a)) m
+    settled_or j.settled p q (p == q) (among p ps) refl (and_first (j.settled q) (all_settled j ps) a) (settled_there j ps p (and_second (j.settled q) (all_settled j ps) a)) m
 
 decided_stays : (e : ℕ) (o : Option Decision) (j : Work) → is_some o ≡ true → decided_job e o j ≡ j
 decided_stays e None j s = cc
@@ -72,10 +62,10 @@ no_way false m (Some x) s = refl
 -- a job that is done
 module _ (j : Work) (d : is_done j ≡ true) where
   is_decided : is_some j.decision ≡ true
-  is_decided = first_true (is_some j.decision) (is_settled j) d
+  is_decided = and_first (is_some j.decision) (is_settled j) d
 
   all_done : is_settled j ≡ true
-  all_done = second_true (is_some j.decision) (is_settled j) d
+  all_done = and_second (is_some j.decision) (is_settled j) d
 
   stays : (e : ℕ) → decided_job e j.decision j ≡ j
   stays e = decided_stays e j.decision j is_decided
@@ -100,8 +90,8 @@ module _ (j : Work) (d : is_done j ≡ true) where
 -- a transaction that is later than all that rest has another name
 other_by : (e n : ℕ) (x y : Txn) (b : Bool) → same x y ≡ b → (x.epoch == e && nat_lt n x.number) ≡ true → not (y.epoch == e && nat_lt n y.number) ≡ true → b ≡ false
 other_by e n x y true s l f =
-    let p : x.epoch ≡ y.epoch = eqb-true x.epoch y.epoch (first_true (x.epoch == y.epoch) (x.number == y.number) s) in
-    let q : x.number ≡ y.number = eqb-true x.number y.number (second_true (x.epoch == y.epoch) (x.number == y.number) s) in
+    let p : x.epoch ≡ y.epoch = eqb-true x.epoch y.epoch (and_first (x.epoch == y.epoch) (x.number == y.number) s) in
+    let q : x.number ≡ y.number = eqb-true x.number y.number (and_second (x.epoch == y.epoch) (x.number == y.number) s) in
     let z : false ≡ true = ap not (sym l ∙ ap (λ u. u == e && nat_lt n x.number) p ∙ ap (λ v. y.epoch == e && nat_lt n v) q) ∙ f in
     cc
 other_by e n x y false s l f = refl
@@ -111,20 +101,20 @@ other_by e n x y false s l f = refl
 all_stay : (e : ℕ) (rested : List Work) → list_all is_done rested ≡ true → map (λ (j : Work). decided_job e j.decision j) rested ≡ rested
 all_stay e [] d = refl
 all_stay e (j ∷ js) d =
-    ap (λ (t : Work). t ∷ map (λ (j : Work). decided_job e j.decision j) js) (stays j (first_true (is_done j) (list_all is_done js) d) e)
-    ∙ ap (λ (ts : List Work). j ∷ ts) (all_stay e js (second_true (is_done j) (list_all is_done js) d))
+    ap (λ (t : Work). t ∷ map (λ (j : Work). decided_job e j.decision j) js) (stays j (and_first (is_done j) (list_all is_done js) d) e)
+    ∙ ap (λ (ts : List Work). j ∷ ts) (all_stay e js (and_second (is_done j) (list_all is_done js) d))
 
 pub first_need_behind : (p : ℕ) (rested js : List Work) → list_all is_done rested ≡ true → first_need (rested ++ js) p ≡ first_need js p
 first_need_behind p [] js d = refl
 first_need_behind p (j ∷ rested) js d =
-    ap (λ o. or_next o (first_need (rested ++ js) p)) (needs_nothing j (first_true (is_done j) (list_all is_done rested) d) p)
-    ∙ first_need_behind p rested js (second_true (is_done j) (list_all is_done rested) d)
+    ap (λ o. or_next o (first_need (rested ++ js) p)) (needs_nothing j (and_first (is_done j) (list_all is_done rested) d) p)
+    ∙ first_need_behind p rested js (and_second (is_done j) (list_all is_done rested) d)
 
 pub busy_behind : (p : ℕ) (sc : Scope) (rested js : List Work) → list_all is_done rested ≡ true → busy_at p sc (rested ++ js) ≡ busy_at p sc js
 busy_behind p sc [] js d = refl
 busy_behind p sc (j ∷ rested) js d =
-    ap (λ b. cond (b && meets (scope_at p j) sc) (Some j.txn) (busy_at p sc (rested ++ js))) (is_shut j (first_true (is_done j) (list_all is_done rested) d) p)
-    ∙ busy_behind p sc rested js (second_true (is_done j) (list_all is_done rested) d)
+    ap (λ b. cond (b && meets (scope_at p j) sc) (Some j.txn) (busy_at p sc (rested ++ js))) (is_shut j (and_first (is_done j) (list_all is_done rested) d) p)
+    ∙ busy_behind p sc rested js (and_second (is_done j) (list_all is_done rested) d)
 
 nothing_more : (n : ℕ) → 0 + n ≡ n
 nothing_more n = omega arith
@@ -132,29 +122,29 @@ nothing_more n = omega arith
 pub reserved_behind : (p : ℕ) (rested js : List Work) → list_all is_done rested ≡ true → reserved p (rested ++ js) ≡ reserved p js
 reserved_behind p [] js d = refl
 reserved_behind p (j ∷ rested) js d =
-    ap (λ b. cond b (cond j.mine (j.changes p + 3) 1) 0 + reserved p (rested ++ js)) (is_shut j (first_true (is_done j) (list_all is_done rested) d) p)
+    ap (λ b. cond b (cond j.mine (j.changes p + 3) 1) 0 + reserved p (rested ++ js)) (is_shut j (and_first (is_done j) (list_all is_done rested) d) p)
     ∙ nothing_more (reserved p (rested ++ js))
-    ∙ reserved_behind p rested js (second_true (is_done j) (list_all is_done rested) d)
+    ∙ reserved_behind p rested js (and_second (is_done j) (list_all is_done rested) d)
 
 pub unsettled_behind : (rested js : List Work) → list_all is_done rested ≡ true → unsettled (rested ++ js) ≡ unsettled js
 unsettled_behind [] js d = refl
 unsettled_behind (j ∷ rested) js d =
-    ap (λ b. or_next (refused_if (not b) (Unsettled j.txn)) (unsettled (rested ++ js))) (all_done j (first_true (is_done j) (list_all is_done rested) d))
-    ∙ unsettled_behind rested js (second_true (is_done j) (list_all is_done rested) d)
+    ap (λ b. or_next (refused_if (not b) (Unsettled j.txn)) (unsettled (rested ++ js))) (all_done j (and_first (is_done j) (list_all is_done rested) d))
+    ∙ unsettled_behind rested js (and_second (is_done j) (list_all is_done rested) d)
 
 none_given_up : (x : Txn) (rested : List Work) → list_all is_done rested ≡ true → map (given_up x) rested ≡ rested
 none_given_up x [] d = refl
 none_given_up x (j ∷ js) d =
-    ap (λ (t : Work). t ∷ map (given_up x) js) (not_given_up j (first_true (is_done j) (list_all is_done js) d) x)
-    ∙ ap (λ (ts : List Work). j ∷ ts) (none_given_up x js (second_true (is_done j) (list_all is_done js) d))
+    ap (λ (t : Work). t ∷ map (given_up x) js) (not_given_up j (and_first (is_done j) (list_all is_done js) d) x)
+    ∙ ap (λ (ts : List Work). j ∷ ts) (none_given_up x js (and_second (is_done j) (list_all is_done js) d))
 
 -- the jobs of a later transaction stand behind all that rest
 on_behind : (e n : ℕ) (x : Txn) (f : Work → Work) (rested js : List Work) → list_all (rests e n) rested ≡ true → (x.epoch == e && nat_lt n x.number) ≡ true → on_job x f (rested ++ js) ≡ rested ++ on_job x f js
 on_behind e n x f [] js r l = refl
 on_behind e n x f (j ∷ rested) js r l =
-    let early = second_true (is_done j) (is_early e n j) (first_true (rests e n j) (list_all (rests e n) rested) r) in
+    let early = and_second (is_done j) (is_early e n j) (and_first (rests e n j) (list_all (rests e n) rested) r) in
     ap (λ b. cond b (f j) j ∷ on_job x f (rested ++ js)) (other_by e n x j.txn (same x j.txn) refl l early)
-    ∙ ap (λ (ts : List Work). j ∷ ts) (on_behind e n x f rested js (second_true (rests e n j) (list_all (rests e n) rested) r) l)
+    ∙ ap (λ (ts : List Work). j ∷ ts) (on_behind e n x f rested js (and_second (rests e n j) (list_all (rests e n) rested) r) l)
 
 either : (e n : ℕ) (x : Txn) (f g : Work → Work) (rested js : List Work) → list_all (rests e n) rested ≡ true → (x.epoch == e && nat_lt n x.number) ≡ true → (good : Bool)
     → cond good (on_job x f (rested ++ js)) (on_job x g (rested ++ js)) ≡ rested ++ cond good (on_job x f js) (on_job x g js)
@@ -237,7 +227,7 @@ first_all q js zero r l a = refl
 first_all q [] (suc n) r l a = refl
 first_all q (j ∷ js) (suc n) zero l a = absurd (omega (arith, l))
 first_all q (j ∷ js) (suc n) (suc r) l a =
-    both_true (q (job_of j)) (list_all q (jobs_of (take n js))) (first_true (q (job_of j)) (list_all q (jobs_of (take r js))) a) (first_all q js n r (omega (arith, l)) (second_true (q (job_of j)) (list_all q (jobs_of (take r js))) a))
+    and_from (q (job_of j)) (list_all q (jobs_of (take n js))) (and_first (q (job_of j)) (list_all q (jobs_of (take r js))) a) (first_all q js n r (omega (arith, l)) (and_second (q (job_of j)) (list_all q (jobs_of (take r js))) a))
 
 -- so many jobs are done where more rest
 pub done_to : (e p n r : ℕ) (js : List Job) → n ≤ r → list_all (rests e p) (jobs_of (take r js)) ≡ true → DoneTo n js
@@ -250,9 +240,6 @@ pub rested_done : (js : Jobs) → DoneTo js.rested js.all
 rested_done js = up_to js js.rested (omega arith)
 
 -- What becomes of the jobs, each decided where it can be
-
-abbrev all_decided : ℕ → List Work → List Work
-all_decided e ks = map (λ (j : Work). decided_job e j.decision j) ks
 
 decided_behind : (e : ℕ) (rested ks : List Work) → list_all is_done rested ≡ true → rested ++ all_decided e ks ≡ all_decided e (rested ++ ks)
 decided_behind e rested ks d =
@@ -339,13 +326,13 @@ early_more e n m x l f = early_by (x.epoch == e) (nat_lt n x.number) (nat_lt m x
 more_rest : (e n m : ℕ) (js : List Work) → n ≤ m → list_all (rests e n) js ≡ true → list_all (rests e m) js ≡ true
 more_rest e n m [] l r = refl
 more_rest e n m (j ∷ js) l r =
-    let here = first_true (rests e n j) (list_all (rests e n) js) r in
-    both_true (rests e m j) (list_all (rests e m) js) (both_true (is_done j) (is_early e m j) (first_true (is_done j) (is_early e n j) here) (early_more e n m j.txn l (second_true (is_done j) (is_early e n j) here)))
-    (more_rest e n m js l (second_true (rests e n j) (list_all (rests e n) js) r))
+    let here = and_first (rests e n j) (list_all (rests e n) js) r in
+    and_from (rests e m j) (list_all (rests e m) js) (and_from (is_done j) (is_early e m j) (and_first (is_done j) (is_early e n j) here) (early_more e n m j.txn l (and_second (is_done j) (is_early e n j) here)))
+    (more_rest e n m js l (and_second (rests e n j) (list_all (rests e n) js) r))
 
 all_one : (q : Work → Bool) (ks : List Work) (w : Work) → list_all q ks ≡ true → q w ≡ true → list_all q (ks ++ w ∷ []) ≡ true
-all_one q [] w a b = both_true (q w) true b refl
-all_one q (k ∷ ks) w a b = both_true (q k) (list_all q (ks ++ w ∷ [])) (first_true (q k) (list_all q ks) a) (all_one q ks w (second_true (q k) (list_all q ks) a) b)
+all_one q [] w a b = and_from (q w) true b refl
+all_one q (k ∷ ks) w a b = and_from (q k) (list_all q (ks ++ w ∷ [])) (and_first (q k) (list_all q ks) a) (all_one q ks w (and_second (q k) (list_all q ks) a) b)
 
 one_after : (i : ℕ) → i + 1 ≡ suc i
 one_after i = omega arith
@@ -356,7 +343,7 @@ one_rests e n m i js j l g h r d f =
     ap (λ (k : ℕ). list_all (rests e m) (jobs_of (take k js))) (one_after i)
     ∙ ap (λ (ks : List Job). list_all (rests e m) (jobs_of ks)) (take_next js i j l g)
     ∙ ap (list_all (rests e m)) (map-append job_of (take i js) (j ∷ []))
-    ∙ all_one (rests e m) (jobs_of (take i js)) (job_of j) (more_rest e n m (jobs_of (take i js)) h r) (both_true (is_done (job_of j)) (is_early e m (job_of j)) d f)
+    ∙ all_one (rests e m) (jobs_of (take i js)) (job_of j) (more_rest e n m (jobs_of (take i js)) h r) (and_from (is_done (job_of j)) (is_early e m (job_of j)) d f)
 
 -- the jobs that rest still do, where those behind are replaced
 pub still_rest : (e p n r : ℕ) (js tail : List Job) → r ≤ n → r ≤ length js → list_all (rests e p) (jobs_of (take r js)) ≡ true → list_all (rests e p) (jobs_of (take r (with_tail n js tail))) ≡ true

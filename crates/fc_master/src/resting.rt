@@ -17,7 +17,8 @@ use std::alloc::Global;
 use std::mem;
 
 /// The jobs of a life, in order of their begin or discovery. The first ones rest: each of them is decided and done at all its participants,
-/// and so nothing more is sent for them, and no time is spent on them when a message comes.
+/// and so nothing more is sent for them. A response to a later transaction of this life does not look at them; an answer to a query, and a
+/// response to a transaction that was found, look at all.
 #[derive(Debug, Drop)]
 pub struct Jobs {
     pub(crate) all: List<Job>,
@@ -192,25 +193,7 @@ impl Jobs {
         }
     }
 
-    /// The transaction whose jobs a response to this changes.
-    fn named(asks: &Asks) -> Option<TxnId>
-        ensures { (e : ℕ) → result ≡ spec.named (body_of e asks.now) }
-    {
-        match asks {
-            Asks::Claim => None,
-            Asks::Ask => None,
-            Asks::Record(_) => None,
-            Asks::Plain => None,
-            Asks::Floor(_) => None,
-            Asks::Sot(txn, _, _) => Some(*txn),
-            Asks::Mot(txn, _) => Some(*txn),
-            Asks::Eot(txn) => Some(*txn),
-            Asks::Trcomp(txn) => Some(*txn),
-            Asks::Abt(txn) => Some(*txn),
-        }
-    }
-
-    // Puts these jobs in the place of all behind the first so many. After an `Err` nothing has changed.
+    /// Puts these jobs in the place of all behind the first so many. After an `Err` nothing has changed.
     pub fn replace(&mut self, from: usize, tail: List<Job>) -> Result<(), Memory>
         ensures ok { OnOk result (self.new.all ≡ with_tail from self.old.all tail) }
         ensures err { OnErr result (self.new ≡ self.old) }
