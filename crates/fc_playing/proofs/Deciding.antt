@@ -40,17 +40,17 @@ came o told end written old (Some text) is ends writes wrote = record {
   text = ap Some (wrote ∙ ap (λ l. old ++ l) (writes ∙ ap (λ (x : Outcome). x.text) (sym is)));
 }
 
-pub decided : (e : PlayEnd) (limit : ℕ) (document : List ℕ) (left : Option (List ℕ)) (old : List ℕ) (text : Option (List ℕ)) → IsOutcome e → PlayEnds limit (Ok e) (Some document) left (Some old) text
+pub decided : (e : PlayEnd) (limit : ℕ) (Unread : Type 0) (document : List ℕ) (left : Option (List ℕ)) (old : List ℕ) (text : Option (List ℕ)) → IsOutcome e → PlayEnds limit Unread (Ok e) (Some document) left (Some old) text
     → CameTo (outcome_of limit document) e old text
-decided Done limit document left old text out (written, (bytes, read, (s, means, (w, come, writes), kept)), wrote) =
+decided Done limit Unread document left old text out (written, (bytes, read, (s, means, (w, come, writes), kept), told), wrote) =
     came _ (outcome Done (world_report w)) Done written old text
     (whole_is limit document bytes left read ∙ ap (outcome_by false) means ∙ ap outcome_by_steps come) refl writes wrote
-decided Refused limit document left old text out (written, (bytes, read, inl (fault, means, writes)), wrote) =
+decided Refused limit Unread document left old text out (written, (bytes, read, inl (fault, means, writes), told), wrote) =
     came _ (outcome Refused (refusal_text (codes "script") fault)) Refused written old text
     (whole_is limit document bytes left read ∙ ap (outcome_by false) means) refl writes wrote
-decided Refused limit document left old text out (written, (bytes, read, inr (s, means, (f, come, writes), kept)), wrote) =
+decided Refused limit Unread document left old text out (written, (bytes, read, inr (s, means, (f, come, writes), kept), told), wrote) =
     came _ (outcome Refused (fault_text f)) Refused written old text
     (whole_is limit document bytes left read ∙ ap (outcome_by false) means ∙ ap outcome_by_steps come) refl writes wrote
-decided TooLong limit document left old text out (written, (bytes, read, writes), wrote) =
+decided TooLong limit Unread document left old text out (written, (bytes, read, writes, told), wrote) =
     came _ (outcome TooLong []) TooLong written old text (long_is limit document bytes left read) refl writes wrote
-decided ReadFault limit document left old text out ends = absurd out
+decided ReadFault limit Unread document left old text out ends = absurd out

@@ -4,10 +4,11 @@ use Rattle.std.specs.Prelude.{OnErr, OnOk, ⊤}
 use Rattle.std.specs.Io.KnownBytes.{Appends, Keeps}
 use Rattle.std.specs.List.Sorted.{IsPermutation}
 use Rattle.std.proofs.KnownBytes.{Appends-nil}
+use Rattle.fc_base.specs.Causes.{Rose}
 use Rattle.fc_base.specs.Content.{AppendsFront}
 use Rattle.fc_element.specs.ElementState.{ElementState}
 use Rattle.fc_element.proofs.Openings.{opened_same}
-use Rattle.fc_endings.specs.Looks.{LookEnds}
+use Rattle.fc_endings.specs.Looks.{LookCount, LookEnds}
 use Rattle.fc_endings.specs.declared.input.Look.{Look}
 use Rattle.fc_endings.specs.declared.input.Look.TheVariants as look
 use Rattle.fc_endings.specs.declared.stops.Stop.{Stop}
@@ -26,34 +27,42 @@ use Rattle.fc_world.specs.declared.nodes.Node.{Node}
 use Rattle.fc_world.specs.declared.setting.Setting.{Setting}
 use Rattle.fc_playing.specs.Playing.{PlaysTo, fault_text, played, played_from}
 use Rattle.fc_playing.specs.Promised.{KeepsPromise}
-use Rattle.fc_playing.specs.WorldRun.{DocumentEnds, DocumentWent, PlayEnds, PlayLacked, PlayWent, PlaysSo, SettingEnds, SettingWent, come_of, look_of}
+use Rattle.fc_playing.specs.WorldRun.{DocumentEnds, DocumentWent, PlayEnds, PlayLacked, PlayWent, PlaysSo, SettingEnds, SettingWent, TellsFault, come_of, look_of}
 use Rattle.fc_playing.specs.declared.end.PlayEnd.{PlayEnd}
 use Rattle.fc_playing.specs.declared.end.PlayEnd.TheVariants.{Done, ReadFault, Refused, TooLong}
 use Rattle.fc_playing.specs.declared.playing.StepFault.{StepFault}
 use Rattle.fc_playing.proofs.Promising.{meant_promise}
 
+-- an input that was read whole was read
+tells_none : (Unread : Type 0) (end : PlayEnd) → look_of end ≡ look.Whole → TellsFault Unread end
+tells_none Unread Done whole = tt
+tells_none Unread Refused whole = tt
+tells_none Unread TooLong whole = tt
+tells_none Unread ReadFault whole = cc whole
+
 -- the input was read whole
-pub document_ends : (how : Result PlayEnd Stop) (limit : ℕ) (bytes : List ℕ) (before left old new : Option (List ℕ)) → LookEnds limit (Ok look.Whole) bytes before left
-    → DocumentEnds bytes how old new → PlayEnds limit how before left old new
-document_ends how limit bytes before left old new read ends =
-    widened PlayEnd (DocumentWent bytes) (PlayWent limit before left) ⊤ (PlayLacked limit before left) how old new
-    (λ end written went. (bytes, rw went.0 read, went.1)) (λ lacked. (bytes, read.0, read.2)) ends
+pub document_ends : (how : Result PlayEnd Stop) (limit : ℕ) (Unread : Type 0) (bytes : List ℕ) (before left old new : Option (List ℕ)) → LookEnds limit (Ok look.Whole) bytes before left
+    → DocumentEnds bytes how old new → PlayEnds limit Unread how before left old new
+document_ends how limit Unread bytes before left old new read ends =
+    widened PlayEnd (DocumentWent bytes) (PlayWent limit Unread before left) ⊤ (PlayLacked limit before left) how old new
+    (λ end written went. (bytes, rw went.0 read, went.1, tells_none Unread end went.0)) (λ lacked. (bytes, read.0, read.2)) ends
 
 -- what was written stands after the flush, and where the flush stopped
-pub play_finished : (end : PlayEnd) (how : Result PlayEnd Stop) (limit : ℕ) (before left old mid new : Option (List ℕ)) → PlayEnds limit (Ok end) before left old mid
-    → IfOk how (λ last. last ≡ end) → Keeps mid new → PlayEnds limit how before left old new
-play_finished end how limit before left old mid new ends is kept =
-    finished_ends PlayEnd (PlayWent limit before left) (PlayLacked limit before left) end how old mid new ends is kept
+pub play_finished : (end : PlayEnd) (how : Result PlayEnd Stop) (limit : ℕ) (Unread : Type 0) (before left old mid new : Option (List ℕ)) → PlayEnds limit Unread (Ok end) before left old mid
+    → IfOk how (λ last. last ≡ end) → Keeps mid new → PlayEnds limit Unread how before left old new
+play_finished end how limit Unread before left old mid new ends is kept =
+    finished_ends PlayEnd (PlayWent limit Unread before left) (PlayLacked limit before left) end how old mid new ends is kept
 
 -- the input can't be read
-pub unread_ends : (how : Look) (limit : ℕ) (bytes : List ℕ) (before left known : Option (List ℕ)) → LookEnds limit (Ok how) bytes before left → how ≡ look.ReadFault
-    → PlayEnds limit (Ok ReadFault) before left known known
-unread_ends how limit bytes before left known read unread = ([], (bytes, rw unread at read, refl), Appends-nil known)
+pub unread_ends : (how : Look) (limit f f' : ℕ) (bytes : List ℕ) (before left known : Option (List ℕ)) → LookEnds limit (Ok how) bytes before left → LookCount (Ok how) f f'
+    → how ≡ look.ReadFault → PlayEnds limit (Rose f f') (Ok ReadFault) before left known known
+unread_ends how limit f f' bytes before left known read count unread =
+    ([], (bytes, rw unread at read, refl, subst (λ (l : Look). LookCount (Ok l) f f') unread count), Appends-nil known)
 
 -- and is too long
-pub long_ends : (how : Look) (limit : ℕ) (bytes : List ℕ) (before left known : Option (List ℕ)) → LookEnds limit (Ok how) bytes before left → how ≡ look.TooLong
-    → PlayEnds limit (Ok TooLong) before left known known
-long_ends how limit bytes before left known read long = ([], (bytes, rw long at read, refl), Appends-nil known)
+pub long_ends : (how : Look) (limit : ℕ) (Unread : Type 0) (bytes : List ℕ) (before left known : Option (List ℕ)) → LookEnds limit (Ok how) bytes before left → how ≡ look.TooLong
+    → PlayEnds limit Unread (Ok TooLong) before left known known
+long_ends how limit Unread bytes before left known read long = ([], (bytes, rw long at read, refl, tt), Appends-nil known)
 
 -- ---- the document means a script
 

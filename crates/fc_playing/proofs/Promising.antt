@@ -1,10 +1,10 @@
 -- What is promised of every network holds of a script that is played, at each moment.
-use Rattle.std.proofs.Common.{◌≡◌, ◌∙◌, ◌++◌, ◌⊎◌, ℕ, List, [], ◌∷◌, inl, inr, sym, ap, arith, subst, Option, Some, Result, Ok, Err}
+use Rattle.std.proofs.Common.{◌≡◌, ◌∙◌, ◌++◌, ◌≤◌, ℕ, List, [], ◌∷◌, length, length-append, inl, inr, sym, ap, arith, subst, Option, Some, Result, Ok, Err}
 use Rattle.std.specs.List.{AllByRecursion}
 use Rattle.fc_documents.specs.declared.transaction.PlanTxn.{PlanTxn}
 use Rattle.fc_endings.specs.declared.stops.Stop.{Stop}
 use Rattle.fc_endings.specs.declared.stops.Stop.TheVariants.{NoMemory, WriteFault}
-use Rattle.fc_endings.proofs.Looking.{all_read}
+use Rattle.fc_endings.proofs.Looking.{all_read, front_read}
 use Rattle.fc_following.proofs.Runs.{agrees, fenced, folds_all, has_one_plan, is_ready, settles, settles_once}
 use Rattle.fc_library.specs.declared.fault.LibFault.{LibFault}
 use Rattle.fc_scripts.specs.Kept.{CanBeSaid}
@@ -17,8 +17,8 @@ use Rattle.fc_world.specs.Worlds.{WorldState, first_world}
 use Rattle.fc_world.specs.WorldSteps.{happens}
 use Rattle.fc_playing.specs.Playing.{CanAll}
 use Rattle.fc_playing.specs.Promised.{KeepsPromise}
-use Rattle.fc_playing.specs.Runs.{PlayRuns}
-use Rattle.fc_playing.specs.WorldRun.{PlayEnds, play_status}
+use Rattle.fc_playing.specs.Runs.{PlayRuns, WasPlayed}
+use Rattle.fc_playing.specs.WorldRun.{PlayEnds, PlayWent, play_status}
 use Rattle.fc_playing.specs.declared.end.PlayEnd.{PlayEnd}
 use Rattle.fc_playing.specs.declared.end.PlayEnd.TheVariants.{Done, ReadFault, Refused, TooLong}
 use Rattle.fc_playing.proofs.Steps.{has_round}
@@ -63,30 +63,40 @@ one_script meant s t one other = let same : Ok s ≡ Ok t = sym one ∙ other in
 
 -- what the input means keeps the promise, where it was played to its end or to a step that can't be made
 pub run_promise : (before : Option (List ℕ)) (document : List ℕ) (s : Scripted) (limit status : ℕ) (left old new : Option (List ℕ)) (Unread Unwritten : Type 0)
-    → PlayRuns limit status before left old new Unread Unwritten → before ≡ Some document → (status ≡ 0) ⊎ (status ≡ 5) → script_of document ≡ Ok s → KeepsPromise s
+    → PlayRuns limit status before left old new Unread Unwritten → before ≡ Some document → WasPlayed limit status document Unread → script_of document ≡ Ok s → KeepsPromise s
 run_promise before document s limit status left old new Unread Unwritten runs known played means =
     let (how, is, ends) = runs.ends in
-    by how (subst (λ b. PlayEnds limit how b left old new) known ends) (told how is played)
+    by how (subst (λ b. PlayEnds limit Unread how b left old new) known ends) (subst (λ n. WasPlayed limit n document Unread) is played)
   where
-    told : (how : Result PlayEnd Stop) → status ≡ play_status how → (status ≡ 0) ⊎ (status ≡ 5) → (play_status how ≡ 0) ⊎ (play_status how ≡ 5)
-    told how is (inl at) = inl (sym is ∙ at)
-    told how is (inr at) = inr (sym is ∙ at)
-
     meant : (bytes : List ℕ) (t : Scripted) → document ≡ bytes → script_of bytes ≡ Ok t → KeepsPromise t → KeepsPromise s
     meant bytes t same are kept = subst KeepsPromise (one_script (script_of document) t s (ap script_of same ∙ are) means) kept
 
     none : (bytes : List ℕ) (fault : LibFault) → document ≡ bytes → script_of bytes ≡ Err fault → KeepsPromise s
     none bytes fault same are = let wrong : Err fault ≡ Ok s = sym are ∙ sym (ap script_of same) ∙ means in cc wrong
 
-    by : (how : Result PlayEnd Stop) → PlayEnds limit how (Some document) left old new → (play_status how ≡ 0) ⊎ (play_status how ≡ 5) → KeepsPromise s
-    by (Ok Done) (written, (bytes, (consumed, end, le), (t, are, reported, kept)), wrote) at = meant bytes t (all_read document bytes left consumed end) are kept
-    by (Ok Refused) (written, (bytes, (consumed, end, le), inl (fault, are, writes)), wrote) at = none bytes fault (all_read document bytes left consumed end) are
-    by (Ok Refused) (written, (bytes, (consumed, end, le), inr (t, are, faulted, kept)), wrote) at = meant bytes t (all_read document bytes left consumed end) are kept
+    -- whatever could be written of it
+    went : (end : PlayEnd) (written : List ℕ) → PlayWent limit Unread (Some document) left end written → length document ≤ limit → (Unread → ⊥) → KeepsPromise s
+    went Done written (bytes, (consumed, end, le), (t, are, reported, kept), told) short read = meant bytes t (all_read document bytes left consumed end) are kept
+    went Refused written (bytes, (consumed, end, le), inl (fault, are, writes), told) short read = none bytes fault (all_read document bytes left consumed end) are
+    went Refused written (bytes, (consumed, end, le), inr (t, are, faulted, kept), told) short read = meant bytes t (all_read document bytes left consumed end) are kept
+    went ReadFault written (bytes, looked, writes, told) short read = absurd (read told)
+    went TooLong written (bytes, (consumed, long), writes, told) short read =
+        let (more, split) = front_read document bytes left consumed in
+        absurd (omega (arith, ap length split, length-append bytes more, long, short))
+
+    by : (how : Result PlayEnd Stop) → PlayEnds limit Unread how (Some document) left old new → WasPlayed limit (play_status how) document Unread → KeepsPromise s
+    by (Ok Done) (written, (bytes, (consumed, end, le), (t, are, reported, kept), told), wrote) at = meant bytes t (all_read document bytes left consumed end) are kept
+    by (Ok Refused) (written, (bytes, (consumed, end, le), inl (fault, are, writes), told), wrote) at = none bytes fault (all_read document bytes left consumed end) are
+    by (Ok Refused) (written, (bytes, (consumed, end, le), inr (t, are, faulted, kept), told), wrote) at = meant bytes t (all_read document bytes left consumed end) are kept
     by (Ok ReadFault) ends (inl at) = absurd (omega (arith, at))
-    by (Ok ReadFault) ends (inr at) = absurd (omega (arith, at))
+    by (Ok ReadFault) ends (inr (inl at)) = absurd (omega (arith, at))
+    by (Ok ReadFault) ends (inr (inr (at, short, read))) = absurd (omega (arith, at))
     by (Ok TooLong) ends (inl at) = absurd (omega (arith, at))
-    by (Ok TooLong) ends (inr at) = absurd (omega (arith, at))
+    by (Ok TooLong) ends (inr (inl at)) = absurd (omega (arith, at))
+    by (Ok TooLong) ends (inr (inr (at, short, read))) = absurd (omega (arith, at))
     by (Err WriteFault) ends (inl at) = absurd (omega (arith, at))
-    by (Err WriteFault) ends (inr at) = absurd (omega (arith, at))
+    by (Err WriteFault) ends (inr (inl at)) = absurd (omega (arith, at))
+    by (Err WriteFault) (end, written, came, front) (inr (inr (at, short, read))) = went end written came short read
     by (Err NoMemory) ends (inl at) = absurd (omega (arith, at))
-    by (Err NoMemory) ends (inr at) = absurd (omega (arith, at))
+    by (Err NoMemory) ends (inr (inl at)) = absurd (omega (arith, at))
+    by (Err NoMemory) ends (inr (inr (at, short, read))) = absurd (omega (arith, at))

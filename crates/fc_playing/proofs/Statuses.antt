@@ -21,7 +21,7 @@ play_decides (Ok TooLong) f f' k k' source sink read wrote = inr (inr (inl refl)
 play_decides (Err WriteFault) f f' k k' source sink read wrote = absurd (wrote sink)
 play_decides (Err NoMemory) f f' k k' source sink read wrote = inr (inr (inr refl))
 
-pub play_runs : (how : Result PlayEnd Stop) (limit status : ℕ) (before left old new : Option (List ℕ)) (f f' k k' : ℕ) → status ≡ play_status how → PlayEnds limit how before left old new
+pub play_runs : (how : Result PlayEnd Stop) (limit status : ℕ) (before left old new : Option (List ℕ)) (f f' k k' : ℕ) → status ≡ play_status how → PlayEnds limit (Rose f f') how before left old new
     → EndCount is_unread how f f' → SinkCount how k k' → PlayRuns limit status before left old new (Rose f f') (Rose k k')
 play_runs how limit status before left old new f f' k k' is ends source sink =
     record { ends = (how, is, ends); complete = λ read wrote. rw is (play_decides how f f' k k' source sink read wrote) }

@@ -57,16 +57,24 @@ look_of TooLong = look.TooLong
 
 -- ---- the command, over an input of which so many bytes are looked at
 
-abbrev pub PlayWent : ℕ → Option (List ℕ) → Option (List ℕ) → PlayEnd → List ℕ → Type 0
-PlayWent limit before left end written = (bytes : List ℕ) × LookEnds limit (Ok (look_of end)) bytes before left × PlaysSo end (script_of bytes) written
+-- an end that tells that the input can't be read comes only where that is so
+abbrev pub TellsFault : Type 0 → PlayEnd → Type 0
+TellsFault Unread ReadFault = Unread
+TellsFault Unread Done = ⊤
+TellsFault Unread Refused = ⊤
+TellsFault Unread TooLong = ⊤
+
+abbrev pub PlayWent : ℕ → Type 0 → Option (List ℕ) → Option (List ℕ) → PlayEnd → List ℕ → Type 0
+PlayWent limit Unread before left end written =
+    (bytes : List ℕ) × LookEnds limit (Ok (look_of end)) bytes before left × PlaysSo end (script_of bytes) written × TellsFault Unread end
 
 -- out of memory before it came to an end
 abbrev pub PlayLacked : ℕ → Option (List ℕ) → Option (List ℕ) → Type 0
 PlayLacked limit before left = (bytes : List ℕ) × Consumes before left bytes × (length bytes ≤ limit)
 
--- How `world` ends: what was read, and what was written.
-abbrev pub PlayEnds : ℕ → Result PlayEnd Stop → Option (List ℕ) → Option (List ℕ) → Option (List ℕ) → Option (List ℕ) → Type 0
-PlayEnds limit how before left old new = CommandEnds PlayEnd (PlayWent limit before left) (PlayLacked limit before left) how old new
+-- How `world` ends: what was read, and what was written. `Unread` stands for a fault of the source.
+abbrev pub PlayEnds : ℕ → Type 0 → Result PlayEnd Stop → Option (List ℕ) → Option (List ℕ) → Option (List ℕ) → Option (List ℕ) → Type 0
+PlayEnds limit Unread how before left old new = CommandEnds PlayEnd (PlayWent limit Unread before left) (PlayLacked limit before left) how old new
 
 -- the same of what was written alone, once the input was read whole
 abbrev pub DocumentWent : List ℕ → PlayEnd → List ℕ → Type 0

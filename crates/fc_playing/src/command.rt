@@ -1,5 +1,6 @@
 // The command `world`.
 ghost use Rattle.std.specs.Prelude.{◌≡◌};
+ghost use Rattle.fc_base.specs.Causes.{Rose};
 ghost use Rattle.fc_endings.specs.Endings.{EndCount};
 ghost use Rattle.fc_endings.specs.Limits.{most_bytes};
 ghost use Rattle.fc_endings.specs.Stops.{FlushedAt, SinkCount};
@@ -20,7 +21,7 @@ use std::alloc::Global;
 /// Plays the script that the input means, writes the report on what it comes to, and flushes it. Where the input means no script, or a step
 /// can't be made, the line of that is written alone.
 pub fn world<S: Source, K: Sink>(alloc: Global, input: &mut S, out: &mut K) -> Result<PlayEnd, Stop>
-    ensures ends { PlayEnds most_bytes result (S.left input.old) (S.left input.new) (K.written out.old) (K.written out.new) }
+    ensures ends { PlayEnds most_bytes (Rose (S.faults input.old) (S.faults input.new)) result (S.left input.old) (S.left input.new) (K.written out.old) (K.written out.new) }
     ensures flushed { FlushedAt result (K.written out.new) (K.flushed out.old) (K.flushed out.new) }
     ensures source { EndCount is_unread result (S.faults input.old) (S.faults input.new) }
     ensures sink { SinkCount result (K.faults out.old) (K.faults out.new) }
@@ -37,7 +38,7 @@ fn world_ends<S: Source, K: Sink>(
     input: &mut S,
     out: &mut K,
 ) -> Result<PlayEnd, Stop>
-    ensures ends { PlayEnds most_bytes result (S.left input.old) (S.left input.new) (K.written out.old) (K.written out.new) }
+    ensures ends { PlayEnds most_bytes (Rose (S.faults input.old) (S.faults input.new)) result (S.left input.old) (S.left input.new) (K.written out.old) (K.written out.new) }
     ensures unflushed { K.flushed out.new ≡ K.flushed out.old }
     ensures source { EndCount is_unread result (S.faults input.old) (S.faults input.new) }
     ensures sink { SinkCount result (K.faults out.old) (K.faults out.new) }

@@ -18,6 +18,6 @@ pub fn steps_are_played()
 
 /// Where nothing fails and memory suffices, a known input decides how `world` ends and what it writes.
 pub fn world_ends_once()
-    ensures { (e : PlayEnd) (limit : ℕ) (document : List ℕ) (left : Option (List ℕ)) (old : List ℕ) (new : Option (List ℕ))
-        → IsOutcome e → PlayEnds limit (Ok e) (Some document) left (Some old) new → CameTo (outcome_of limit document) e old new }
+    ensures { (e : PlayEnd) (limit : ℕ) (Unread : Type 0) (document : List ℕ) (left : Option (List ℕ)) (old : List ℕ) (new : Option (List ℕ))
+        → IsOutcome e → PlayEnds limit Unread (Ok e) (Some document) left (Some old) new → CameTo (outcome_of limit document) e old new }
 {}

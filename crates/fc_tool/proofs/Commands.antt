@@ -2,6 +2,7 @@
 use Rattle.std.proofs.Common.{◌≡◌, ◌∙◌, sym, ap, refl, ℕ, List, [], ◌⊎◌, Option, None, Some, Result, Ok, Err, inl, inr, take, arith}
 use Rattle.std.proofs.KnownBytes.{Appends-nil}
 use Rattle.fc_base.specs.Causes.{Rose}
+use Rattle.fc_playing.specs.Runs.{WasPlayed}
 use Rattle.fc_words.specs.declared.commands.Command.{Command}
 use Rattle.fc_words.specs.declared.commands.Command.TheVariants.{Control, Element, Make, Show, World}
 use Rattle.fc_tool.specs.declared.make.Made.{Made}
@@ -141,6 +142,7 @@ make_none limit left known f k =
     make_runs (Err NoMemory) limit 9 left left known known f f k k refl (inr (([], consumes_none left, omega arith), Appends-nil known)) (inl refl) refl
 
 -- with the status of that no script was played
-pub not_played : (status : ℕ) → status ≡ 9 → (status ≡ 0) ⊎ (status ≡ 5) → ⊥
-not_played status is (inl at) = absurd (omega (arith, is, at))
-not_played status is (inr at) = absurd (omega (arith, is, at))
+pub not_played : (limit status : ℕ) (document : List ℕ) (Unread : Type 0) → status ≡ 9 → WasPlayed limit status document Unread → ⊥
+not_played limit status document Unread is (inl at) = absurd (omega (arith, is, at))
+not_played limit status document Unread is (inr (inl at)) = absurd (omega (arith, is, at))
+not_played limit status document Unread is (inr (inr (at, short, read))) = absurd (omega (arith, is, at))

@@ -9,7 +9,7 @@ ghost use Rattle.fc_controlling.specs.ControlRun.{control_status};
 ghost use Rattle.fc_controlling.specs.Runs.{ControlRuns};
 ghost use Rattle.fc_following.specs.Promise.{HadOnePlan, HasAgreed, HasFolded, HasSettled, HasSettledOnce, IsFenced, WasReady};
 ghost use Rattle.fc_playing.specs.Promised.{AtEachStep};
-ghost use Rattle.fc_playing.specs.Runs.{PlayRuns};
+ghost use Rattle.fc_playing.specs.Runs.{PlayRuns, WasPlayed};
 ghost use Rattle.fc_playing.specs.WorldRun.{play_status};
 ghost use Rattle.fc_scripts.specs.Scripts.{Scripted, script_of};
 ghost use Rattle.fc_serving.specs.ElementRun.{element_status};
@@ -68,21 +68,22 @@ pub fn run<S: Source, K: Sink, H: Hub, R: Rounds>(
     // what every participant had prepared, and all had opened with the same participants; what is settled at each of them is the fold of what it has
     // completed; no Config of a life that it has replaced changes it; and what a control element counts as settled was settled so. After status 0 that is
     // from the first step to the last, all of which were made. After status 5 it is up to the step that can't be made; where the document means no script,
-    // nothing was played. After every other status nothing is said of it.
+    // nothing was played. After status 3 it is one or the other, where the document could be read and is no longer than is looked at. After every other
+    // status nothing is said of it: a document that can't be read or is too long is not played, and one that ends for want of memory is cut short.
     ensures agree { (document : List ℕ) (s : Scripted) → command_of (map string_bytes words.now) ≡ Some meant.World → S.left input.old ≡ Some document
-        → (result ≡ DONE) ⊎ (result ≡ REFUSED) → script_of document ≡ Ok s → AtEachStep HasAgreed s }
+        → WasPlayed most_bytes result document (Rose (S.faults input.old) (S.faults input.new)) → script_of document ≡ Ok s → AtEachStep HasAgreed s }
     ensures once { (document : List ℕ) (s : Scripted) → command_of (map string_bytes words.now) ≡ Some meant.World → S.left input.old ≡ Some document
-        → (result ≡ DONE) ⊎ (result ≡ REFUSED) → script_of document ≡ Ok s → AtEachStep HasSettledOnce s }
+        → WasPlayed most_bytes result document (Rose (S.faults input.old) (S.faults input.new)) → script_of document ≡ Ok s → AtEachStep HasSettledOnce s }
     ensures ready { (document : List ℕ) (s : Scripted) → command_of (map string_bytes words.now) ≡ Some meant.World → S.left input.old ≡ Some document
-        → (result ≡ DONE) ⊎ (result ≡ REFUSED) → script_of document ≡ Ok s → AtEachStep WasReady s }
+        → WasPlayed most_bytes result document (Rose (S.faults input.old) (S.faults input.new)) → script_of document ≡ Ok s → AtEachStep WasReady s }
     ensures one_plan { (document : List ℕ) (s : Scripted) → command_of (map string_bytes words.now) ≡ Some meant.World → S.left input.old ≡ Some document
-        → (result ≡ DONE) ⊎ (result ≡ REFUSED) → script_of document ≡ Ok s → AtEachStep HadOnePlan s }
+        → WasPlayed most_bytes result document (Rose (S.faults input.old) (S.faults input.new)) → script_of document ≡ Ok s → AtEachStep HadOnePlan s }
     ensures folded { (document : List ℕ) (s : Scripted) → command_of (map string_bytes words.now) ≡ Some meant.World → S.left input.old ≡ Some document
-        → (result ≡ DONE) ⊎ (result ≡ REFUSED) → script_of document ≡ Ok s → AtEachStep HasFolded s }
+        → WasPlayed most_bytes result document (Rose (S.faults input.old) (S.faults input.new)) → script_of document ≡ Ok s → AtEachStep HasFolded s }
     ensures fenced { (document : List ℕ) (s : Scripted) → command_of (map string_bytes words.now) ≡ Some meant.World → S.left input.old ≡ Some document
-        → (result ≡ DONE) ⊎ (result ≡ REFUSED) → script_of document ≡ Ok s → AtEachStep IsFenced s }
+        → WasPlayed most_bytes result document (Rose (S.faults input.old) (S.faults input.new)) → script_of document ≡ Ok s → AtEachStep IsFenced s }
     ensures settled { (document : List ℕ) (s : Scripted) → command_of (map string_bytes words.now) ≡ Some meant.World → S.left input.old ≡ Some document
-        → (result ≡ DONE) ⊎ (result ≡ REFUSED) → script_of document ≡ Ok s → AtEachStep HasSettled s }
+        → WasPlayed most_bytes result document (Rose (S.faults input.old) (S.faults input.new)) → script_of document ≡ Ok s → AtEachStep HasSettled s }
 
     ensures element { (fe ce : ℕ) (address : List ℕ) (connections turns : ℕ)
         → command_of (map string_bytes words.now) ≡ Some (meant.Element fe ce address connections turns)

@@ -19,25 +19,25 @@ pub returns-in-Err-Memory-clause-world : goal.returns-in-Err-Memory-clause-world
 returns-in-Err-Memory-clause-world g c is = play_none _ _ _ _ _
 
 pub returns-in-Err-Memory-clause-agree : goal.returns-in-Err-Memory-clause-agree
-returns-in-Err-Memory-clause-agree g c document s is known played means = absurd (not_played 9 refl played)
+returns-in-Err-Memory-clause-agree g c document s is known played means = absurd (not_played _ 9 document _ refl played)
 
 pub returns-in-Err-Memory-clause-once : goal.returns-in-Err-Memory-clause-once
-returns-in-Err-Memory-clause-once g c document s is known played means = absurd (not_played 9 refl played)
+returns-in-Err-Memory-clause-once g c document s is known played means = absurd (not_played _ 9 document _ refl played)
 
 pub returns-in-Err-Memory-clause-ready : goal.returns-in-Err-Memory-clause-ready
-returns-in-Err-Memory-clause-ready g c document s is known played means = absurd (not_played 9 refl played)
+returns-in-Err-Memory-clause-ready g c document s is known played means = absurd (not_played _ 9 document _ refl played)
 
 pub returns-in-Err-Memory-clause-one_plan : goal.returns-in-Err-Memory-clause-one_plan
-returns-in-Err-Memory-clause-one_plan g c document s is known played means = absurd (not_played 9 refl played)
+returns-in-Err-Memory-clause-one_plan g c document s is known played means = absurd (not_played _ 9 document _ refl played)
 
 pub returns-in-Err-Memory-clause-folded : goal.returns-in-Err-Memory-clause-folded
-returns-in-Err-Memory-clause-folded g c document s is known played means = absurd (not_played 9 refl played)
+returns-in-Err-Memory-clause-folded g c document s is known played means = absurd (not_played _ 9 document _ refl played)
 
 pub returns-in-Err-Memory-clause-fenced : goal.returns-in-Err-Memory-clause-fenced
-returns-in-Err-Memory-clause-fenced g c document s is known played means = absurd (not_played 9 refl played)
+returns-in-Err-Memory-clause-fenced g c document s is known played means = absurd (not_played _ 9 document _ refl played)
 
 pub returns-in-Err-Memory-clause-settled : goal.returns-in-Err-Memory-clause-settled
-returns-in-Err-Memory-clause-settled g c document s is known played means = absurd (not_played 9 refl played)
+returns-in-Err-Memory-clause-settled g c document s is known played means = absurd (not_played _ 9 document _ refl played)
 
 pub returns-in-Err-Memory-clause-element : goal.returns-in-Err-Memory-clause-element
 returns-in-Err-Memory-clause-element g c fe ce address connections turns is = element_none _ fe ce turns _ _ _ _ _ _
