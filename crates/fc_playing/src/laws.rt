@@ -1,5 +1,6 @@
 // Laws of how `world` ends.
 ghost use Rattle.std.specs.Prelude.{◌≡◌, ◌↔◌, ℕ, List, Option, Some, Ok, Err};
+ghost use Rattle.fc_base.specs.Causes.{Rose};
 ghost use Rattle.fc_documents.specs.declared.transaction.PlanTxn.{PlanTxn};
 ghost use Rattle.fc_playing.specs.Outcomes.{CameTo, IsOutcome, outcome_of};
 ghost use Rattle.fc_playing.specs.Playing.{AreMade, IsFirstFault, played};
@@ -18,6 +19,6 @@ pub fn steps_are_played()
 
 /// Where nothing fails and memory suffices, a known input decides how `world` ends and what it writes.
 pub fn world_ends_once()
-    ensures { (e : PlayEnd) (limit : ℕ) (Unread : Type 0) (document : List ℕ) (left : Option (List ℕ)) (old : List ℕ) (new : Option (List ℕ))
-        → IsOutcome e → PlayEnds limit Unread (Ok e) (Some document) left (Some old) new → CameTo (outcome_of limit document) e old new }
+    ensures { (e : PlayEnd) (limit before now : ℕ) (document : List ℕ) (left : Option (List ℕ)) (old : List ℕ) (new : Option (List ℕ))
+        → IsOutcome e → PlayEnds limit (Rose before now) (Ok e) (Some document) left (Some old) new → CameTo (outcome_of limit document) e old new }
 {}

@@ -1,7 +1,9 @@
 // What stays with a world from its first step to its last.
-ghost use Rattle.std.specs.Prelude.{◌≡◌, IfOk, OnOk};
-ghost use Rattle.std.specs.List.{AllByRecursion};
+ghost use Rattle.std.specs.Prelude.{◌≡◌, true, map, IfOk, OnOk};
+ghost use Rattle.std.specs.List.{AllByRecursion, list_all};
 ghost use Rattle.fc_base.specs.Ids.{IsCe};
+ghost use Rattle.fc_documents.specs.Parts.{makes_plan};
+ghost use Rattle.fc_plans.specs.Plans.{whole};
 ghost use Rattle.fc_numbering.specs.Numbering.{AreInstances};
 ghost use Rattle.fc_wellformed.specs.WellFormed.{TxnHolds};
 ghost use Rattle.fc_world.specs.Played.{setting_of};
@@ -10,7 +12,7 @@ ghost use Rattle.fc_world.specs.Settings.{FitsWords, IsNetwork, IsPlanned};
 use crate::numbers::word;
 use fc_base::{CeId, Duplicate, FeId, List, Memory};
 use fc_documents::PlanTxn;
-use fc_plans::Part;
+use fc_plans::{Change, Part};
 use fc_scripts::Script;
 use fc_types::{Instances, Library};
 use std::alloc::Global;
@@ -64,11 +66,29 @@ fn parts_fit(parts: &[Part])
     }
 }
 
+// The same of participants at which everything may be changed.
+fn whole_parts_fit(parts: &[(FeId, List<Change>)])
+    ensures { AllByRecursion FitsWords (map whole parts.now) }
+{
+    match parts {
+        [] => {}
+        [first, rest @ ..] => {
+            let _number = first.0.get();
+            whole_parts_fit(rest);
+        }
+    }
+}
+
 // A control element can begin the transaction, in numbers that fit.
 fn is_planned(transaction: &PlanTxn) -> Result<(), Memory>
-    requires { TxnHolds transaction.now }
+    requires makes { makes_plan transaction.now ≡ true }
+    requires holds { TxnHolds transaction.now }
     ensures { OnOk result (IsPlanned transaction.now) }
 {
+    if !transaction.scoped {
+        whole_parts_fit(transaction.parts.as_slice());
+        return Ok(());
+    }
     match transaction.plan() {
         Ok(plan) => {
             parts_fit(plan.parts());
@@ -80,7 +100,8 @@ fn is_planned(transaction: &PlanTxn) -> Result<(), Memory>
 
 // Each of them can be begun.
 fn are_planned(transactions: &[PlanTxn]) -> Result<(), Memory>
-    requires { AllByRecursion TxnHolds transactions.now }
+    requires make { list_all makes_plan transactions.now ≡ true }
+    requires hold { AllByRecursion TxnHolds transactions.now }
     ensures { OnOk result (AllByRecursion IsPlanned transactions.now) }
 {
     match transactions {

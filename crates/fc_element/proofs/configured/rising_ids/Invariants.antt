@@ -3,8 +3,8 @@ use Rattle.std.specs.BTreeSet.{insert_key}
 use Rattle.std.specs.List.{fold}
 use Rattle.std.specs.Ordering.{nat_cmp}
 use Rattle.fc_types.specs.Components.{ComponentDecl}
-use Rattle.fc_element.specs.Reports.{rising_ids}
-use Rattle.fc_element.proofs.report.rising_ids.Given as goal
+use Rattle.fc_element.specs.Configuration.{rising_ids}
+use Rattle.fc_element.proofs.configured.rising_ids.Given as goal
 
 abbrev pub invariant-loop-component : goal.invariant-loop-component
 invariant-loop-component l =
