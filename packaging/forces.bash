@@ -1,4 +1,4 @@
-# Completion for bash of the words of `forces`: the commands, and for `element` and `control` what their operands may look like.
+# Completion for bash of the words of `forces`: the commands, and for `element`, `control` and `gen` what their operands may look like.
 #
 # Use: source packaging/forces.bash
 
@@ -45,7 +45,8 @@ _forces() {
 # What the word of this place may be, with this command.
 _forces_operands() {
   case $1:$2 in
-    1:*) echo show make element control world ;;
+    1:*) echo show make element control world gen ;;
+    2:gen) echo 1 10 100 1000 ;;
     2:control | 3:element) echo 40000001 ;;
     4:element) echo 127.0.0.1:6653 0.0.0.0:6653 ;;
     4:control | 5:control) ;;

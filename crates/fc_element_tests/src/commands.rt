@@ -16,7 +16,11 @@ fn words(alloc: Global, line: &str) -> Result<Vec<String>, Fail> {
 // The values of `element`: the two IDs, the two counts and the address.
 fn values(given: &Command) -> Option<([u32; 4], &str)> {
     match given {
-        Command::Show | Command::Make | Command::World | Command::Control { .. } => None,
+        Command::Show
+        | Command::Make
+        | Command::World
+        | Command::Gen { .. }
+        | Command::Control { .. } => None,
         Command::Element {
             fe,
             ce,
@@ -90,9 +94,11 @@ fn controls(alloc: Global, given: &Command) -> Result<String, Fail> {
             push_addresses(&mut told, addresses.as_slice())?;
             Ok(told)
         }
-        Command::Show | Command::Make | Command::World | Command::Element { .. } => {
-            Err(Fail::from("another command"))
-        }
+        Command::Show
+        | Command::Make
+        | Command::World
+        | Command::Gen { .. }
+        | Command::Element { .. } => { Err(Fail::from("another command")) }
     }
 }
 

@@ -8,6 +8,7 @@ ghost use Rattle.fc_endings.specs.declared.stops.Stop.{Stop};
 ghost use Rattle.fc_controlling.specs.ControlRun.{control_status};
 ghost use Rattle.fc_controlling.specs.Runs.{ControlRuns};
 ghost use Rattle.fc_following.specs.Promise.{HadOnePlan, HasAgreed, HasFolded, HasSettled, HasSettledOnce, IsFenced, WasReady};
+ghost use Rattle.fc_generating.specs.Runs.{GenRuns, gen_status};
 ghost use Rattle.fc_playing.specs.Promised.{AtEachStep};
 ghost use Rattle.fc_playing.specs.Runs.{PlayRuns, WasPlayed};
 ghost use Rattle.fc_playing.specs.WorldRun.{play_status};
@@ -30,6 +31,7 @@ use crate::status::{
 use fc_base::{CeId, List, Sink, Source, Text};
 use fc_controlling::{Asked, ControlEnd, control};
 use fc_endings::{Stop, finish, put};
+use fc_generating::generate;
 use fc_hub::{Hub, Rounds};
 use fc_playing::{PlayEnd, world};
 use fc_serving::{ElementEnd, element};
@@ -85,6 +87,10 @@ pub fn run<S: Source, K: Sink, H: Hub, R: Rounds>(
     ensures settled { (document : List ℕ) (s : Scripted) → command_of (map string_bytes words.now) ≡ Some meant.World → S.left input.old ≡ Some document
         → WasPlayed most_bytes result document (Rose (S.faults input.old) (S.faults input.new)) → script_of document ≡ Ok s → AtEachStep HasSettled s }
 
+    // A large run reads nothing, and what it writes is the summary of its last world.
+    ensures large { (n : ℕ) → command_of (map string_bytes words.now) ≡ Some (meant.Gen n)
+        → GenRuns n result (K.written out.old) (K.written out.new) (Rose (K.faults out.old) (K.faults out.new)) × (input.new ≡ input.old) }
+
     ensures element { (fe ce : ℕ) (address : List ℕ) (connections turns : ℕ)
         → command_of (map string_bytes words.now) ≡ Some (meant.Element fe ce address connections turns)
         → ElementRuns most_bytes fe ce turns result (S.left input.old) (S.left input.new) (H.held hub.old) (H.held hub.new) (K.written out.old) (K.written out.new)
@@ -126,6 +132,7 @@ pub fn run<S: Source, K: Sink, H: Hub, R: Rounds>(
         Command::Show => show_status(show(alloc, input, out)),
         Command::Make => make_status(make(alloc, input, out)),
         Command::World => play_status(world(alloc, input, out)),
+        Command::Gen { transactions } => gen_status(generate(alloc, transactions, out)),
         Command::Element { fe, ce, turns, .. } => {
             element_status(element(alloc, fe, ce, turns, input, out, hub))
         }
@@ -205,6 +212,16 @@ fn play_status(how: Result<PlayEnd, Stop>) -> u8
         Ok(PlayEnd::ReadFault) => READ_FAULT,
         Ok(PlayEnd::Refused) => REFUSED,
         Ok(PlayEnd::TooLong) => TOO_LONG,
+        Err(Stop::WriteFault) => WRITE_FAULT,
+        Err(Stop::NoMemory) => NO_MEMORY,
+    }
+}
+
+fn gen_status(how: Result<(), Stop>) -> u8
+    ensures { result ≡ gen_status how }
+{
+    match how {
+        Ok(()) => DONE,
         Err(Stop::WriteFault) => WRITE_FAULT,
         Err(Stop::NoMemory) => NO_MEMORY,
     }

@@ -3,6 +3,7 @@ ghost use Rattle.std.specs.Prelude.{◌≡◌, ◌≢◌, ◌++◌, ◌∷◌, [
 ghost use Rattle.std.specs.Option.{option_copied};
 ghost use Rattle.fc_world.specs.Lookups.{element_in, parcel_in, ruling_in};
 ghost use Rattle.fc_world.specs.Played.{AreMade, begins_with, report_of, setting_of, world_after, world_of};
+ghost use Rattle.fc_world.specs.Reports.{sent_count};
 ghost use Rattle.fc_world.specs.Settings.{IsNetwork};
 ghost use Rattle.fc_world.specs.Stages.{HasRound, IsSound, RefusesAt, Tells, ruling_of, state_of};
 ghost use Rattle.fc_world.specs.Trails.{trail_of};
@@ -14,7 +15,7 @@ use crate::controllers::{controller_of, first_controllers};
 use crate::faults::{Refused, WorldFault};
 use crate::nodes::{element_of, first_nodes};
 use crate::reporting::put_report;
-use crate::sent::message_numbered;
+use crate::sent::{count, message_numbered};
 use crate::setting::{Setting, setting_of};
 use crate::stage::Stage;
 use crate::trailing::trail_of;
@@ -187,6 +188,13 @@ impl World {
         put_report(self.alloc, &self.stage, &mut text)?;
         into.extend_from_slice(text.as_slice())?;
         Ok(())
+    }
+
+    /// How many messages were sent.
+    pub fn sent(&self) -> usize
+        ensures { result ≡ sent_count (world_of self.now) }
+    {
+        count(self.stage.sent.as_slice())
     }
 
     /// The message with this number among all that were sent, counted from 1.
