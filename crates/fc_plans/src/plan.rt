@@ -140,22 +140,35 @@ fn whole_have_changes(parts: &[(FeId, List<Change>)]) -> bool
     }
 }
 
+fn whole_rise(parts: &[(FeId, List<Change>)]) -> bool
+    ensures { result ≡ spec.is_rising (map spec.whole parts.now) }
+{
+    match parts {
+        [] => true,
+        [first, rest @ ..] => whole_rise_after(first.0, rest),
+    }
+}
+
+fn whole_order(parts: &[(FeId, List<Change>)]) -> Option<PlanFault>
+    ensures { result ≡ spec.order_fault (map spec.whole parts.now) }
+{
+    if parts.is_empty() {
+        return Some(PlanFault::Empty);
+    }
+    if !whole_rise(parts) {
+        return Some(PlanFault::Order);
+    }
+    if !whole_have_changes(parts) {
+        return Some(PlanFault::Changes);
+    }
+    None
+}
+
 /// Why these participants with their changes are no plan that may change everything at each of them: what [`TxnPlan::of`] tells of them.
 pub fn whole_fault(parts: &[(FeId, List<Change>)]) -> Option<PlanFault>
     ensures { result ≡ plan_fault (map spec.whole parts.now) }
 {
-    match parts {
-        [] => Some(PlanFault::Empty),
-        [first, rest @ ..] => {
-            if !whole_rise_after(first.0, rest) {
-                return Some(PlanFault::Order);
-            }
-            if !whole_have_changes(parts) {
-                return Some(PlanFault::Changes);
-            }
-            None
-        }
-    }
+    whole_order(parts)
 }
 
 impl TxnPlan {
