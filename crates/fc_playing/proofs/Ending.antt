@@ -60,9 +60,9 @@ unread_ends how limit f f' bytes before left known read count unread =
     ([], (bytes, rw unread at read, refl, subst (λ (l : Look). LookCount (Ok l) f f') unread count), Appends-nil known)
 
 -- and is too long
-pub long_ends : (how : Look) (limit : ℕ) (Unread : Type 0) (bytes : List ℕ) (before left known : Option (List ℕ)) → LookEnds limit (Ok how) bytes before left → how ≡ look.TooLong
-    → PlayEnds limit Unread (Ok TooLong) before left known known
-long_ends how limit Unread bytes before left known read long = ([], (bytes, rw long at read, refl, tt), Appends-nil known)
+pub long_ends : (how : Look) (limit f f' : ℕ) (bytes : List ℕ) (before left known : Option (List ℕ)) → LookEnds limit (Ok how) bytes before left → LookCount (Ok how) f f'
+    → how ≡ look.TooLong → PlayEnds limit (Rose f f') (Ok TooLong) before left known known
+long_ends how limit f f' bytes before left known read count long = ([], (bytes, rw long at read, refl, tt), Appends-nil known)
 
 -- ---- the document means a script
 

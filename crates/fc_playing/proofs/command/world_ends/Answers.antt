@@ -7,7 +7,8 @@ returns-in-Ok-Whole-clause-ends g c =
     (rw c.in-Ok-Whole.field-0-is at c.in-Ok-Whole.ensures.ends) (rw c.as_slice.ensures.value at c.declared_world.ensures.ends)
 
 pub returns-in-Ok-TooLong-clause-ends : goal.returns-in-Ok-TooLong-clause-ends
-returns-in-Ok-TooLong-clause-ends g c = long_ends c.in-Ok-TooLong.field-0 67108864 _ c.look_over.new.held.items _ _ _ c.in-Ok-TooLong.ensures.ends c.in-Ok-TooLong.field-0-is
+returns-in-Ok-TooLong-clause-ends g c =
+    long_ends c.in-Ok-TooLong.field-0 67108864 _ _ c.look_over.new.held.items _ _ _ c.in-Ok-TooLong.ensures.ends c.in-Ok-TooLong.ensures.count c.in-Ok-TooLong.field-0-is
 
 pub returns-in-Ok-ReadFault-clause-ends : goal.returns-in-Ok-ReadFault-clause-ends
 returns-in-Ok-ReadFault-clause-ends g c =
