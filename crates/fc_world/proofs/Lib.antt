@@ -5,6 +5,7 @@ pub mod Calling
 pub mod Clearing
 pub mod Counting
 pub mod Places
+pub mod Planning
 pub mod Playing
 pub mod Ruling
 pub mod Running
