@@ -9,6 +9,7 @@ use fc_base::{Memory, Sink};
 use fc_endings::{Stop, finish, put};
 use fc_generated::generated;
 use std::alloc::Global;
+use std::mem;
 
 // What is written of a run of so many transactions.
 fn told(alloc: Global, count: u32) -> Result<Vec<u8>, Memory>
@@ -17,7 +18,10 @@ fn told(alloc: Global, count: u32) -> Result<Vec<u8>, Memory>
 {
     let script = generated(alloc, count)?;
     let world = played(alloc, script)?;
-    summary(alloc, count, &world)
+    let text = summary(alloc, count, &world);
+    // Nothing comes behind a run but the end of the program, and to take a world of many messages apart takes time.
+    mem::forget(world);
+    text
 }
 
 // Writes all of a text, and flushes it.
