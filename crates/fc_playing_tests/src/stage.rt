@@ -175,10 +175,16 @@ pub(crate) fn says(
     Ok(found == wanted)
 }
 
-// Whether this is the report on a world.
-pub(crate) fn is_reported(alloc: Global, world: &World, wanted: &str) -> Result<bool, Fail> {
+// The report on a world.
+pub(crate) fn reported(alloc: Global, world: &World) -> Result<Vec<u8>, Fail> {
     let mut text = Vec::new(alloc);
     world.report(&mut text).ok().ok_or("memory")?;
+    Ok(text)
+}
+
+// Whether this is it.
+pub(crate) fn is_reported(alloc: Global, world: &World, wanted: &str) -> Result<bool, Fail> {
+    let text = reported(alloc, world)?;
     Ok(text.as_slice() == wanted.as_bytes())
 }
 

@@ -42,11 +42,7 @@ pub fn write_full_entries(
 
 // Appends the full form of an array that stands by itself.
 #[tactic(auto, unfolding(crate::specs::Writing::inside_bytes))]
-fn write_whole_entries(
-    ty: &Ty,
-    entries: &[(u32, Value)],
-    into: &mut Vec<u8>,
-) -> Result<(), Memory>
+fn write_whole_entries(ty: &Ty, entries: &[(u32, Value)], into: &mut Vec<u8>) -> Result<(), Memory>
     ensures { OnOk result (into.new.items ≡ into.old.items ++ full_bytes ty.now (values.Table entries.now)) }
 {
     match ty {
