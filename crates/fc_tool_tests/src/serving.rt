@@ -3,7 +3,7 @@ ghost use Rattle.std.specs.Prelude.{◌≡◌};
 ghost use Rattle.std.specs.List.{list_all};
 ghost use Rattle.fc_hub.specs.Hubs.{is_given};
 
-use crate::running::{failing, words};
+use crate::running::{bytes_of, failing, words};
 use fc_base::{Octets, SureSink, SureSource};
 use fc_hub::{Act, HubEvent, MemHub, SureHub, SureRounds};
 use fc_tool::run;
@@ -210,6 +210,39 @@ fn bytes_that_are_cut_anywhere_are_answered_alike(rt: HostRuntime) -> Result<(),
     for cut in 0..56usize {
         let events = cut_at(alloc, cut)?;
         let wanted = setup_and_answer(alloc, events.len() as u64)?;
+        let (status, text, hub) = ran(alloc, "element 2 40000001 a 1 9", Vec::new(alloc), events)?;
+        assert_eq!(rt; status, 0, "cut at {cut}");
+        assert_eq!(rt; text.as_slice(), REPORT.as_bytes(), "cut at {cut}");
+        assert_eq!(rt; hub.acts(), wanted.as_slice(), "cut at {cut}");
+    }
+    Ok(())
+}
+
+// A query for the state of an element, component 7 of its FEObject, and the answer.
+const QUERY: &str =
+    "1004000D 40000001 00000002 00000000 00000007 00000000 1000001C 00000001 00000001 00070010 0110000C 00000001 00000007";
+
+const TOLD: &str =
+    "1014000F 00000002 40000001 00000000 00000007 00000000 10000024 00000001 00000001 00090018 01100014 00000001 00000007 01120005 02000000";
+
+// The events of a connection that is accepted and asked, where the query is cut at a place.
+fn asked_in_two(alloc: Global, cut: usize) -> Result<Vec<HubEvent>, Fail> {
+    let query = bytes_of(alloc, QUERY)?;
+    match query.as_slice().split_at_checked(cut) {
+        Some((front, back)) if front.len() > 0 => visit(alloc, &[&ACCEPTED, front, back]),
+        _ => visit(alloc, &[&ACCEPTED, &query]),
+    }
+}
+
+#[test]
+fn a_query_that_is_cut_anywhere_is_answered_alike(rt: HostRuntime) -> Result<(), Fail> {
+    let alloc = rt.alloc();
+    let told = bytes_of(alloc, TOLD)?;
+    // Cut in front of its first byte it is whole.
+    for cut in 0..52usize {
+        let events = asked_in_two(alloc, cut)?;
+        let mut wanted = setup(alloc)?;
+        wanted.push(sent(alloc, events.len() as u64, 1, &told)?)?;
         let (status, text, hub) = ran(alloc, "element 2 40000001 a 1 9", Vec::new(alloc), events)?;
         assert_eq!(rt; status, 0, "cut at {cut}");
         assert_eq!(rt; text.as_slice(), REPORT.as_bytes(), "cut at {cut}");
