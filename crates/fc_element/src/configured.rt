@@ -182,7 +182,7 @@ fn push_instances(
 }
 
 // The components of a store that are not live and have another value than in a new store with the same library and instances.
-fn configured(alloc: Global, store: &Store) -> Result<List<Configured>, Memory>
+fn configuration_of(alloc: Global, store: &Store) -> Result<List<Configured>, Memory>
     ensures { IfOk result (λ changes. changes ≡ spec.configured store.now) }
 {
     let first = Store::new(alloc, store.library(), store.instances())?;
@@ -196,8 +196,8 @@ pub fn settled_configuration(alloc: Global, ledger: &Ledger) -> Result<List<Conf
     ensures { IfOk result (λ changes. changes ≡ spec.configured (states.settled_store ledger.now)) }
 {
     if ledger.holdings.is_empty() {
-        return configured(alloc, &ledger.store);
+        return configuration_of(alloc, &ledger.store);
     }
     let settled = settled_store(alloc, ledger)?;
-    configured(alloc, &settled)
+    configuration_of(alloc, &settled)
 }
