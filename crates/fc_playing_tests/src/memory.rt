@@ -40,7 +40,7 @@ fn is_made(alloc: Global, world: &mut World, place: usize) -> Result<bool, Fail>
     let step = step_at(alloc, place)?;
     let same = step_at(alloc, place)?;
     let before = reported(alloc, world)?;
-    if made(world.step(place, step)).is_ok() {
+    if world.step(place, step) == Ok(None) {
         return Ok(true);
     }
     let after = reported(alloc, world)?;
