@@ -12,6 +12,7 @@ use fc_scripts::Script;
 use fc_steps::Step;
 use fc_world::{World, WorldFault};
 use std::alloc::Global;
+use std::mem;
 
 // A step that can't be made is passed over.
 fn pass_over(fault: WorldFault) -> Result<(), Memory>
@@ -51,7 +52,13 @@ pub(crate) fn played(alloc: Global, script: Script) -> Result<World, Memory>
     ensures { IfOk result (λ world. world_of world ≡ last_world script) }
 {
     let mut world = World::new(alloc, &script)?;
-    let Script { steps, .. } = script;
+    let Script {
+        steps,
+        transactions,
+        ..
+    } = script;
+    // The world has its own, and nothing asks for the room of these again before the program ends.
+    mem::forget(transactions);
     try_all(&mut world, steps.into_vec())?;
     Ok(world)
 }
