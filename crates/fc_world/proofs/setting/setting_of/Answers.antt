@@ -1,6 +1,7 @@
-use Rattle.std.proofs.Common.{◌≡◌, sym, subst}
-use Rattle.std.specs.List.{AllByRecursion}
+use Rattle.std.proofs.Common.{◌≡◌, true, sym, subst}
+use Rattle.std.specs.List.{AllByRecursion, list_all}
 use Rattle.fc_base.specs.Ids.{IsCe}
+use Rattle.fc_documents.specs.Parts.{makes_plan}
 use Rattle.fc_wellformed.specs.WellFormed.{TxnHolds}
 use Rattle.fc_world.specs.Played.{setting_of}
 use Rattle.fc_world.specs.Settings.{IsNetwork, IsPlanned}
@@ -8,8 +9,11 @@ use Rattle.fc_world.proofs.Places.{if_then}
 use Rattle.fc_world.proofs.Playing.{is_network}
 use Rattle.fc_world.proofs.setting.setting_of.Goals as goal
 
-pub are_planned-requires : goal.are_planned-requires
-are_planned-requires c = subst (AllByRecursion TxnHolds) (sym c.transactions.ensures.same) c.transactions.ensures.script.changing
+pub are_planned-requires-clause-make : goal.are_planned-requires-clause-make
+are_planned-requires-clause-make c = subst (λ ts. list_all makes_plan ts ≡ true) (sym c.transactions.ensures.same) c.transactions.ensures.script.planned
+
+pub are_planned-requires-clause-hold : goal.are_planned-requires-clause-hold
+are_planned-requires-clause-hold c = subst (AllByRecursion TxnHolds) (sym c.transactions.ensures.same) c.transactions.ensures.script.changing
 
 pub returns-clause-network : goal.returns-clause-network
 returns-clause-network c =
