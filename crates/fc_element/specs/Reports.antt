@@ -51,7 +51,7 @@ unfoldable pub config_line : Configured → List ℕ
 config_line c = codes "config " ++ (component_text c ++ (codes " " ++ (form_text c.form ++ codes "\n")))
 
 -- the lines of a configuration
-abbrev pub config_lines : Stored → List ℕ
+unfoldable pub config_lines : Stored → List ℕ
 config_lines s = flat_map config_line (configured s)
 
 abbrev pub reported : TransactionState → List ℕ

@@ -153,6 +153,7 @@ fn push_config(changes: &[Configured], into: &mut Vec<u8>) -> Result<(), Memory>
 }
 
 // Appends the lines of the settled configuration.
+#[tactic(auto, unfolding(crate::specs::Reports::config_lines))]
 fn push_settled(ledger: &Ledger, into: &mut Vec<u8>) -> Result<(), Memory>
     ensures { OnOk result (into.new.items ≡ into.old.items ++ config_lines (states.settled_store ledger.now)) }
 {
