@@ -1,5 +1,5 @@
 // Transactions of the script, by their names.
-ghost use Rattle.std.specs.Prelude.{◌≡◌, option_map};
+ghost use Rattle.std.specs.Prelude.{◌≡◌, bytes_eq, option_map};
 ghost use Rattle.std.specs.Option.{option_copied};
 ghost use Rattle.fc_world.specs.Lookups as spec;
 
@@ -7,12 +7,22 @@ use fc_base::{FeId, List};
 use fc_documents::PlanTxn;
 use fc_master::Change;
 
+// Whether two names are one. Those of a script mostly differ at their ends.
+fn same_name(one: &str, other: &str) -> bool
+    ensures { result ≡ bytes_eq one.now other.now }
+{
+    if one.as_bytes().last() != other.as_bytes().last() {
+        return false;
+    }
+    one == other
+}
+
 /// The transaction of this name.
 pub fn transaction_in<'a>(name: &str, transactions: &'a [PlanTxn]) -> Option<&'a PlanTxn>
     ensures { option_copied result ≡ spec.transaction_in name.now transactions.now }
 {
     for transaction in transactions {
-        if name == transaction.name.as_str() {
+        if same_name(name, transaction.name.as_str()) {
             return Some(transaction);
         }
     }
