@@ -2,14 +2,27 @@
 ghost use Rattle.std.specs.Prelude.{◌≡◌, ◌≤◌, IfOk};
 ghost use Rattle.fc_endings.specs.Stops.{FlushedAt, SinkCount};
 ghost use Rattle.fc_generating.specs.Runs.{GenEnds, TextEnds, told};
+ghost use Rattle.fc_generating.specs.Summaries as spec;
+ghost use Rattle.fc_world.specs.Played.{world_of};
 
 use crate::summary::summary;
 use crate::trying::played;
 use fc_base::{Memory, Sink};
 use fc_endings::{Stop, finish, put};
 use fc_generated::generated;
+use fc_world::World;
 use std::alloc::Global;
 use std::mem;
+
+// What is written of a world. Nothing comes behind a run but the end of the program, and to take a world of many messages apart takes time.
+fn text_of(alloc: Global, count: u32, world: World) -> Result<Vec<u8>, Memory>
+    requires { count ≤ 1000 }
+    ensures { IfOk result (λ text. text.items ≡ spec.summary count (world_of world)) }
+{
+    let text = summary(alloc, count, &world);
+    mem::forget(world);
+    text
+}
 
 // What is written of a run of so many transactions.
 fn told(alloc: Global, count: u32) -> Result<Vec<u8>, Memory>
@@ -18,10 +31,7 @@ fn told(alloc: Global, count: u32) -> Result<Vec<u8>, Memory>
 {
     let script = generated(alloc, count)?;
     let world = played(alloc, script)?;
-    let text = summary(alloc, count, &world);
-    // Nothing comes behind a run but the end of the program, and to take a world of many messages apart takes time.
-    mem::forget(world);
-    text
+    text_of(alloc, count, world)
 }
 
 // Writes all of a text, and flushes it.

@@ -17,7 +17,6 @@ use fc_library::LibFault;
 use fc_scripts::{Script, script_from_slice};
 use fc_world::World;
 use std::alloc::Global;
-use std::mem;
 
 /// Plays the script that the input means, writes the report on what it comes to, and flushes it. Where the input means no script, or a step
 /// can't be made, the line of that is written alone.
@@ -76,7 +75,7 @@ fn scripted_world<K: Sink>(alloc: Global, script: &Script, out: &mut K) -> Resul
         return Err(Stop::NoMemory);
     };
     world.keeps();
-    let end = match play(&mut world, script.steps()) {
+    match play(&mut world, script.steps()) {
         Ok(None) => {
             headline(&world);
             report(alloc, &world, out)
@@ -86,8 +85,5 @@ fn scripted_world<K: Sink>(alloc: Global, script: &Script, out: &mut K) -> Resul
             refuse_step(alloc, fault, out)
         }
         Err(_) => Err(Stop::NoMemory),
-    };
-    // Nothing comes behind a run but the end of the program, and to take a world of many messages apart takes time.
-    mem::forget(world);
-    end
+    }
 }

@@ -4,7 +4,7 @@ ghost use Rattle.std.specs.List.{list_all};
 ghost use Rattle.fc_hub.specs.Hubs.{is_given};
 
 use crate::running::{bytes_of, failing, words};
-use fc_base::{Octets, SureSink, SureSource};
+use fc_base::{MemSink, MemSource, Octets, Sink, Source, SureSink, SureSource};
 use fc_hub::{Act, HubEvent, MemHub, SureHub, SureRounds};
 use fc_tool::run;
 use std::alloc::Global;
@@ -327,5 +327,66 @@ fn each_call_of_the_hub_fails_in_turn(rt: HostRuntime) -> Result<(), Fail> {
     }
     let ended = ran_over_failing(rt.alloc(), 9)?;
     assert!(rt; ended == (0, 3, REPORT.len()));
+    Ok(())
+}
+
+// The status over this input and output, where a control element comes and asks for an answer, and how many acts were done.
+fn over_ends<S: Source, K: Sink>(
+    alloc: Global,
+    input: &mut S,
+    out: &mut K,
+) -> Result<(u8, usize), Fail> {
+    let words = words(alloc, "element 2 40000001 a 1 9")?;
+    let events = greeting(alloc)?;
+    if !are_given(events.as_slice()) {
+        return Err(Fail::from("no hub tells these events"));
+    }
+    let mut hub = SureHub::new(alloc, events);
+    let mut rounds = SureRounds::new(1);
+    let status = run(alloc, words.as_slice(), input, out, &mut hub, &mut rounds);
+    Ok((status, hub.acts().len()))
+}
+
+// The status where a call of the source fails, how many acts were done and how much was written.
+fn from_failing(alloc: Global, call: u64) -> Result<(u8, usize, usize), Fail> {
+    let library = Vec::from_slice(alloc, b"# a library of none")?;
+    let mut input = MemSource::new(library, 10, failing(alloc, call)?);
+    let mut out = SureSink::new(alloc);
+    let (status, acts) = over_ends(alloc, &mut input, &mut out)?;
+    Ok((status, acts, out.bytes().len()))
+}
+
+// The same where a call of the sink fails.
+fn to_failing(alloc: Global, call: u64) -> Result<(u8, usize, usize), Fail> {
+    let mut input = SureSource::new(Vec::new(alloc), 1);
+    let mut out = MemSink::new(alloc, failing(alloc, call)?);
+    let (status, acts) = over_ends(alloc, &mut input, &mut out)?;
+    Ok((status, acts, out.bytes().len()))
+}
+
+#[test]
+fn each_call_of_the_source_fails_in_turn(rt: HostRuntime) -> Result<(), Fail> {
+    // Two pieces of the library and the end are three reads.
+    for (call, ended) in [
+        (1, (2, 0, 0)),
+        (2, (2, 0, 0)),
+        (3, (2, 0, 0)),
+        (4, (0, 2, REPORT.len())),
+    ] {
+        assert!(rt; from_failing(rt.alloc(), call)? == ended, "at {call}");
+    }
+    Ok(())
+}
+
+#[test]
+fn each_call_of_the_sink_fails_in_turn(rt: HostRuntime) -> Result<(), Fail> {
+    // The report is one write. Then comes the flush. All that is to be done was done before.
+    for (call, ended) in [
+        (1, (3, 2, 0)),
+        (2, (3, 2, REPORT.len())),
+        (3, (0, 2, REPORT.len())),
+    ] {
+        assert!(rt; to_failing(rt.alloc(), call)? == ended, "at {call}");
+    }
     Ok(())
 }
