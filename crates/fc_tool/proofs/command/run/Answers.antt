@@ -1,4 +1,4 @@
-use Rattle.std.proofs.Common.{◌∙◌, ap, refl, Some}
+use Rattle.std.proofs.Common.{◌∙◌, ap, map, refl, string_bytes, Some}
 use Rattle.fc_controlling.proofs.Statuses.{control_none, control_runs}
 use Rattle.fc_generating.proofs.Statuses.{gen_none, gen_runs}
 use Rattle.fc_playing.proofs.Promising.{run_promise}
@@ -176,7 +176,7 @@ returns-in-World-clause-control g c ce rounds connections turns addresses is = a
 -- ---- `gen`
 
 pub generate-requires : goal.generate-requires
-generate-requires g c = ((words_of_gen _ _).0 (c.in-Ok.ensures.exact ∙ ap (λ m. Some m) c.in-Gen.is)).range.1
+generate-requires g c = ((words_of_gen (map string_bytes c.args.words.now) c.in-Gen.transactions).0 (c.in-Ok.ensures.exact ∙ ap (λ m. Some m) c.in-Gen.is)).range.1
 
 pub returns-in-Gen-clause-show : goal.returns-in-Gen-clause-show
 returns-in-Gen-clause-show g c is = absurd (gen_or_show _ _ (c.in-Ok.ensures.exact ∙ ap (λ m. Some m) c.in-Gen.is) is)
