@@ -23,7 +23,7 @@ module _ (g : ℕ → ℕ) where
   pub one_more : (i last before new whole : ℕ) → new ≡ before + g i → before + sum (map g (numbers_from i (last - i))) ≡ whole → i < last → new + sum (map g (numbers_from (i + 1) (last - (i + 1)))) ≡ whole
   one_more i last before new whole is h less =
       let split : sum (map g (numbers_from i (last - i))) ≡ g i + sum (map g (numbers_from (i + 1) (last - (i + 1)))) =
-          ap (λ n. sum (map g (numbers_from i n))) (one_left i last less) ∙ sum_more (g i) (map g (numbers_from (i + 1) (last - (i + 1)))) in
+      ap (λ n. sum (map g (numbers_from i n))) (one_left i last less) ∙ sum_more (g i) (map g (numbers_from (i + 1) (last - (i + 1)))) in
       omega (arith, is, h, split)
 
   -- and no more
