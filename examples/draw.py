@@ -2,9 +2,9 @@
 
 Use: python3 examples/messages.py PROGRAM SCRIPT | python3 examples/draw.py > PICTURE
 
-It reads what messages.py prints. Time runs downward, and each delivery has a row of its own: an arrow from who sent the message to whom it
-came to. A message that never came has a broken arrow that ends at a cross, in the row behind what has sent it. All other steps have their text at the left.
-The columns of control elements are dark while they run.
+It reads what messages.py prints: the steps, and in a few words what `forces show` tells of the messages that they send. Time runs downward, and each
+delivery has a row of its own: an arrow from who sent the message to whom it came to. A message that never came has a broken arrow that ends at a
+cross, in the row behind what has sent it. All other steps have their text at the left. The columns of control elements are dark while they run.
 """
 import re
 import sys

@@ -6,9 +6,9 @@ its transactions. The standard library is enough; to read a script takes Python 
         world.happen(step)
     world.sent[0]          # who sent the first message, to whom, what it is, and in which step
 
-What an element holds in its blocks is left to a function, as in that page: `effect(element, message)` gives the code that the operations in a
-message get, 0 where they are done. It is called where a transaction completes too, and changes `element.settings` where operations that are settled
-change what the element has for heartbeats. No event is registered here.
+What an element holds in its blocks is left to a function, as in that page: `effect(element, message)` gives the codes that the operations in a
+message get where they are not done, and none where they are. It is called where a transaction completes too, and changes `element.settings` where
+operations that are settled change what the element has for heartbeats. No event is registered here.
 """
 from dataclasses import dataclass, field
 
@@ -29,8 +29,14 @@ class Message:
     number: int = 0  # of a change; the code of a response; the epoch in a claim and in the answer to a query
     parts: tuple = ()
     scope: tuple = ()
-    held: tuple = ()  # the transactions that the answer to an ask tells, each with its participants
+    held: tuple = ()  # the transactions that the answer to an ask tells, each with its participants and its state
     state: str = None
+    request: object = None  # what a response answers
+    codes: tuple = ()  # in the response to a change that was looked at and not done: those of its operations
+
+
+def reply(request, code, codes=()):
+    return Message("reply", request.stamp, number=code, request=request, codes=codes)
 
 
 def meets(one, other):
@@ -54,7 +60,7 @@ class Element:
     def __init__(self, number, ce, instances, effect):
         self.number, self.ce, self.instances, self.effect = number, ce, instances, effect
         self.epoch, self.master, self.sequence, self.kept = 0, None, 0, None
-        self.records, self.floor = {}, (0, 0)
+        self.records, self.floor, self.codes = {}, (0, 0), ()
         self.settings = dict(SETTINGS)
         self.restart()
 
@@ -80,19 +86,21 @@ class Element:
         if message.kind in QUERIES:
             self.associations[ce] = self.clock
             return [self.answer(message)]
-        reply = self.judge(ce, message)
-        return [reply] if reply else []
+        answer = self.judge(ce, message)
+        return [answer] if answer else []
 
     def answer(self, message):
         if message.kind == "ask":
-            held = tuple((txn, record.parts) for txn, record in self.records.items() if record.is_held())
+            held = tuple((txn, record.parts, record.state) for txn, record in self.records.items() if record.is_held())
             return Message("holds", message.stamp, number=self.epoch, held=held)
         record = self.records.get(message.txn)
-        return Message("tells", message.stamp, message.txn, self.epoch, state=record.state if record else "absent")
+        parts, state = (record.parts, record.state) if record else ((), "absent")
+        return Message("tells", message.stamp, message.txn, self.epoch, parts, state=state)
 
     def judge(self, ce, message):
         """The fence. A claim undoes what is started."""
         life, count = message.stamp
+        self.codes = ()
         if message.kind == "claim" and life == message.number > self.epoch and count == 0 and life % 256 == ce % 256:
             self.epoch, self.master, self.ce, self.sequence = life, ce, ce, 0
             for record in self.records.values():
@@ -100,21 +108,26 @@ class Element:
                     record.state = "aborted"
             code = 0
         elif self.epoch == 0:
-            return Message("reply", message.stamp, number=0x0C)
+            return reply(message, 0x0C)
         elif life != self.epoch or ce != self.master:
-            return Message("reply", message.stamp, number=0x0C)
+            return reply(message, 0x0C)
         elif count == self.sequence:
             self.associations[ce] = self.clock
             return self.kept
         elif count != self.sequence + 1:
             self.associations[ce] = self.clock
-            return Message("reply", message.stamp, number=0x10)
+            return reply(message, 0x10)
         else:
             self.sequence = count
             code = self.act(message)
         self.associations[ce] = self.clock
-        self.kept = Message("reply", message.stamp, number=code)
+        self.kept = reply(message, code, self.codes)
         return self.kept
+
+    def operate(self, message):
+        """The first code of the operations in a message that is not 0."""
+        self.codes = tuple(self.effect(self, message))
+        return next(filter(None, self.codes), 0)
 
     def act(self, message):
         """The code of the next Config."""
@@ -124,7 +137,7 @@ class Element:
             return 0x12 if any(each.is_held() and not each.scope for each in self.records.values()) else 0x0C
         if message.kind == "plain":
             taken = any(each.is_held() and meets(each.scope, message.scope) for each in self.records.values())
-            return 0x12 if taken else self.effect(self, message)
+            return 0x12 if taken else self.operate(message)
         if message.kind == "floor":
             if txn[0] != self.epoch or txn[1] == 0 or txn < self.floor:
                 return 0x10
@@ -155,7 +168,7 @@ class Element:
         if not record:
             return 0x0B
         if message.kind == "mot":
-            code = self.effect(self, message) if state == "started" else 0x12
+            code = self.operate(message) if state == "started" else 0x12
             if state == "started" and code:
                 record.state = "aborted"
             return code
@@ -321,7 +334,7 @@ class Master:
             peer.lost = True
         elif message.kind == "holds":
             peer.doubt, peer.answered = False, True
-            for txn, parts in message.held:
+            for txn, parts, _ in message.held:
                 if all(job.txn != txn for job in self.jobs):
                     self.jobs.append(Job(txn, parts))
         else:
@@ -423,7 +436,7 @@ class World:
     """A network from a script. `done` counts the steps that have happened, each delivery by itself."""
 
     script: dict
-    effect: object = lambda element, message: 0
+    effect: object = lambda element, message: ()
     sent: list = field(default_factory=list)
     refused: list = field(default_factory=list)
     done: int = 0
