@@ -3,6 +3,7 @@
     world.happen(step)
     spelling.message(world, world.sent[0]).encode()
 """
+import functools
 import struct
 
 import forces
@@ -76,7 +77,12 @@ def set_by(said):
 
 def body_of(plan, element, number):
     """The selects of the change of this number, from 1, that a transaction has for an element."""
-    lines = "".join(f"  {line}\n" for line in plan.bodies[element][number - 1].splitlines())
+    return selects_in(plan.bodies[element][number - 1])
+
+
+@functools.cache
+def selects_in(body):
+    lines = "".join(f"  {line}\n" for line in body.splitlines())
     text = f"Config from={0:08X} to={0:08X} corr={0:016X} flags={0:08X}\n{lines}"
     return forces.read_text(text.encode())[0].selects
 
