@@ -5,7 +5,7 @@ ghost use Rattle.fc_endings.specs.Endings.{EndCount};
 ghost use Rattle.fc_endings.specs.Limits.{most_bytes};
 ghost use Rattle.fc_endings.specs.Stops.{FlushedAt, SinkCount};
 ghost use Rattle.fc_playing.specs.WorldRun.{DocumentEnds, PlayEnds, SettingEnds, is_unread};
-ghost use Rattle.fc_world.specs.Played.{setting_of};
+ghost use Rattle.fc_world.specs.Played.{begins_with, setting_of};
 
 use crate::end::PlayEnd;
 use crate::playing::play;
@@ -17,6 +17,7 @@ use fc_library::LibFault;
 use fc_scripts::{Script, script_from_slice};
 use fc_world::World;
 use std::alloc::Global;
+use std::mem;
 
 /// Plays the script that the input means, writes the report on what it comes to, and flushes it. Where the input means no script, or a step
 /// can't be made, the line of that is written alone.
@@ -65,7 +66,34 @@ fn declared_world<K: Sink>(alloc: Global, document: &[u8], out: &mut K) -> Resul
     }
 }
 
-// Plays a script, and writes the report. Where a step can't be made it writes why.
+// Makes the steps of a script in its world, and writes the report. Where a step can't be made it writes why.
+fn played_world<K: Sink>(
+    alloc: Global,
+    script: &Script,
+    world: &mut World,
+    out: &mut K,
+) -> Result<PlayEnd, Stop>
+    requires { world.old ≡ begins_with (setting_of script.now) }
+    ensures ends { SettingEnds (setting_of script.now) script.now.steps result (K.written out.old) (K.written out.new) }
+    ensures unflushed { K.flushed out.new ≡ K.flushed out.old }
+    ensures sink { SinkCount result (K.faults out.old) (K.faults out.new) }
+{
+    world.keeps();
+    match play(world, script.steps()) {
+        Ok(None) => {
+            headline(world);
+            report(alloc, world, out)
+        }
+        Ok(Some(fault)) => {
+            headline(world);
+            refuse_step(alloc, fault, out)
+        }
+        Err(_) => Err(Stop::NoMemory),
+    }
+}
+
+// Plays a script in a new world, which is then left as it is: nothing comes behind a run but the end of the program, and to take a world of
+// many messages apart takes time.
 fn scripted_world<K: Sink>(alloc: Global, script: &Script, out: &mut K) -> Result<PlayEnd, Stop>
     ensures ends { SettingEnds (setting_of script.now) script.now.steps result (K.written out.old) (K.written out.new) }
     ensures unflushed { K.flushed out.new ≡ K.flushed out.old }
@@ -74,16 +102,7 @@ fn scripted_world<K: Sink>(alloc: Global, script: &Script, out: &mut K) -> Resul
     let Ok(mut world) = World::new(alloc, script) else {
         return Err(Stop::NoMemory);
     };
-    world.keeps();
-    match play(&mut world, script.steps()) {
-        Ok(None) => {
-            headline(&world);
-            report(alloc, &world, out)
-        }
-        Ok(Some(fault)) => {
-            headline(&world);
-            refuse_step(alloc, fault, out)
-        }
-        Err(_) => Err(Stop::NoMemory),
-    }
+    let end = played_world(alloc, script, &mut world, out);
+    mem::forget(world);
+    end
 }
