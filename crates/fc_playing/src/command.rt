@@ -14,6 +14,7 @@ use fc_base::{Sink, Source};
 use fc_endings::{Look, Stop, finished, look_over};
 use fc_following::headline;
 use fc_library::LibFault;
+use fc_rounds::clean_rounds_complete;
 use fc_scripts::{Script, script_from_slice};
 use fc_world::World;
 use std::alloc::Global;
@@ -81,7 +82,9 @@ fn played_world<K: Sink>(
     world.keeps();
     match play(world, script.steps()) {
         Ok(None) => {
+            // What is promised of every network is so at each of its steps; and where all of a clean round is delivered, it completes.
             headline(world);
+            clean_rounds_complete();
             report(alloc, world, out)
         }
         Ok(Some(fault)) => {
