@@ -7,8 +7,6 @@ mod deciding;
 #[cfg(test)]
 mod limits;
 #[cfg(test)]
-mod memory;
-#[cfg(test)]
 mod messages;
 #[cfg(test)]
 mod node;

@@ -1,6 +1,6 @@
 pub mod Beats
 pub mod Configs
-pub mod Configuring
+pub mod Configured
 pub mod Fitting
 pub mod Ledgered
 pub mod Openings

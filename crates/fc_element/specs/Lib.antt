@@ -1,4 +1,3 @@
-pub mod Configuration
 pub mod ElementMachine
 pub mod ElementState
 pub mod Notices

@@ -1,5 +1,4 @@
 pub mod Unknown
-pub mod Rested
 pub mod Changing
 pub mod Refusing
 pub mod Forgetful

@@ -1,4 +1,3 @@
-pub mod Resting
 pub mod Masters
 pub mod Refusals
 pub mod Reports

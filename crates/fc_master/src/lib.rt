@@ -15,7 +15,6 @@ mod plain;
 mod refusals;
 mod reporting;
 mod resending;
-mod resting;
 mod seats;
 mod spending;
 mod stepping;

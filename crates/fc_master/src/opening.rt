@@ -6,7 +6,6 @@ ghost use Rattle.fc_jobs.specs.Sending.{are_apart};
 ghost use Rattle.fc_master.specs.Masters.{core_of};
 
 use crate::master::Master;
-use crate::resting::Jobs;
 use fc_asks::Life;
 use fc_base::{CeId, Epoch, FeId, List, Memory};
 use fc_jobs::{Job, Seat};
@@ -44,7 +43,7 @@ impl Master {
         Ok(Master {
             life,
             seats,
-            jobs: Jobs::new(alloc, epoch),
+            jobs: List::new(alloc),
             begun: 0,
             wanted: None,
             deposed: None,
@@ -53,7 +52,7 @@ impl Master {
 
     /// The transactions that it drives, in the order in which it began or found them.
     pub fn jobs(&self) -> &[Job]
-        ensures { result.now ≡ self.now.jobs.all }
+        ensures { result.now ≡ self.now.jobs }
     {
         self.jobs.as_slice()
     }

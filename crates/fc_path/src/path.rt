@@ -87,11 +87,11 @@ fn copy_body(body: &Body) -> Result<Body, Memory>
 fn copy_paths(paths: &List<PathData>) -> Result<List<PathData>, Memory>
     ensures { IfOk result (λ others. others ≡ paths.now) }
 {
-    let mut others = Vec::with_capacity(paths.alloc(), paths.len())?;
+    let mut others = List::new(paths.alloc());
     for path in paths.as_slice() {
         others.push(copy_path(path)?)?;
     }
-    Ok(List::from_vec(others))
+    Ok(others)
 }
 
 impl Duplicate for PathData {

@@ -8,8 +8,6 @@ mod limits;
 #[cfg(test)]
 mod making;
 #[cfg(test)]
-mod playing;
-#[cfg(test)]
 mod running;
 #[cfg(test)]
 mod serving;

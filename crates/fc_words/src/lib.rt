@@ -4,7 +4,6 @@
 mod commands;
 mod control;
 mod element;
-mod generate;
 mod laws;
 mod positionals;
 mod reading;
@@ -12,7 +11,7 @@ mod values;
 
 pub use commands::{Command, WordFault};
 pub use laws::{
-    controller_words, decimal_words, words_of_control, words_of_element, words_of_gen,
-    words_of_make, words_of_show, words_of_world,
+    controller_words, decimal_words, words_of_control, words_of_element, words_of_make,
+    words_of_show,
 };
 pub use reading::command;

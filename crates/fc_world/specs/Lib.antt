@@ -1,10 +1,4 @@
-pub mod Worlds
 pub mod Lookups
-pub mod Turns
-pub mod WorldSteps
-pub mod Settings
-pub mod Played
 pub mod Stages
-pub mod Answering
-pub mod Reports
-pub mod Trails
+pub mod WorldSteps
+pub mod Worlds

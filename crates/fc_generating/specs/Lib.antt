@@ -1,3 +1,0 @@
-pub mod Trying
-pub mod Summaries
-pub mod Runs
