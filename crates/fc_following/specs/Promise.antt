@@ -34,7 +34,7 @@ IsFolded s fs n = Folds (opened_store s.library s.instances) (record { state = n
 abbrev pub AllFolded : Setting → WorldState → List (Fact Operation) → Type 0
 AllFolded s w fs = AllByRecursion (IsFolded s fs) w.nodes
 
--- a Config of a life below an element's epoch, sent by whomever, changes nothing there, in any part, when it comes, and is no fact
+-- a Config that was sent by a life below an element's epoch changes nothing there, in any part, when it comes, and is no fact
 abbrev pub Fenced : WorldState → Type 0
 Fenced w =
     (c f : ℕ) (m : Message) (selects : List Select) (e : ElementState) → In (Downward c f m) w.sent → m.body ≡ Config selects → element_in f w.nodes ≡ Some e → (stamp m.corr).life < e.transactions.epoch

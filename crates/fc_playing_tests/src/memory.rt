@@ -5,7 +5,7 @@ ghost use Rattle.fc_world.specs.Stages.{HasRound};
 
 use crate::stage::{is_reported, made, network, reported};
 use fc_base::{FeId, Text};
-use fc_world::{Step, World};
+use fc_world::{Step, World, WorldFault};
 use std::alloc::Global;
 use std::test::Fail;
 
@@ -40,8 +40,10 @@ fn is_made(alloc: Global, world: &mut World, place: usize) -> Result<bool, Fail>
     let step = step_at(alloc, place)?;
     let same = step_at(alloc, place)?;
     let before = reported(alloc, world)?;
-    if world.step(place, step) == Ok(None) {
-        return Ok(true);
+    match world.step(place, step) {
+        Ok(None) => return Ok(true),
+        Err(WorldFault::Memory) => {}
+        _ => return Ok(false),
     }
     let after = reported(alloc, world)?;
     made(world.step(place, same))?;
