@@ -1,5 +1,5 @@
--- What steps come to, where one that can't be made changes nothing. This profile's own.
-use Rattle.std.specs.Prelude.{ℕ, List, [], ◌∷◌, Option, Some, None}
+-- What steps come to, up to the first that can't be made. This profile's own.
+use Rattle.std.specs.Prelude.{ℕ, Bool, true, false, List, [], ◌∷◌, Option, Some, None}
 use Rattle.fc_documents.specs.declared.transaction.PlanTxn.{PlanTxn}
 use Rattle.fc_generated.specs.Generated.{generated}
 use Rattle.fc_scripts.specs.Scripts.{Scripted}
@@ -9,18 +9,20 @@ use Rattle.fc_world.specs.Worlds.{WorldState, first_world}
 use Rattle.fc_world.specs.WorldSteps.{fault_of, happens}
 use Rattle.fc_world.specs.declared.faults.WorldFault.{WorldFault}
 
+-- the world behind a step that can be made, or else the one before it
 abbrev pub tried_by : Option WorldFault → WorldState → WorldState → WorldState
-tried_by None new old = new
-tried_by (Some fault) new old = old
+tried_by None behind before = behind
+tried_by (Some fault) behind before = before
 
--- one step
-abbrev pub tried_step : List PlanTxn → WorldState → ℕ × Step → WorldState
-tried_step ts w x = tried_by (fault_of ts w x.1) (happens ts w x) w
-
--- and all of them
+-- the steps in their order; one that can't be made is the end
 abbrev pub tried : List PlanTxn → WorldState → List (ℕ × Step) → WorldState
 tried ts w [] = w
-tried ts w (x ∷ xs) = tried ts (tried_step ts w x) xs
+tried ts w (x ∷ xs) = tried_by (fault_of ts w x.1) (tried ts (happens ts w x) xs) w
+
+-- the same where the first of them was tried, and was made or not, and this is the world then
+abbrev pub tried_behind : Bool → List PlanTxn → WorldState → List (ℕ × Step) → WorldState
+tried_behind true ts w xs = tried ts w xs
+tried_behind false ts w xs = w
 
 -- the last world of a script
 abbrev pub last_world : Scripted → WorldState
