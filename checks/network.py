@@ -1,4 +1,5 @@
 """Elements and control elements over TCP on this machine, for the checks that run them."""
+import atexit
 import selectors
 import socket
 import subprocess
@@ -50,6 +51,19 @@ def plan(elements, transactions=()):
     return "".join(lines).encode()
 
 
+def begun(words, **ends):
+    """A process, which is killed where the check ends before it. Who has seen it end calls `forget`."""
+    process = subprocess.Popen(words, **ends)
+    atexit.register(process.kill)
+    return process
+
+
+def forget(process):
+    """Kills a process that has not ended, and keeps nothing of it."""
+    process.kill()
+    atexit.unregister(process.kill)
+
+
 class Element:
     """A forwarding element that runs, for so many connections."""
 
@@ -58,20 +72,23 @@ class Element:
         self.port = free_ports(1)[0]
         words = [program, "element", str(number), "40000001", address(self.port), str(connections), "4294967295"]
         with open(library, "rb") as source:
-            self.process = subprocess.Popen(words, stdin=source, stdout=subprocess.PIPE)
+            self.process = begun(words, stdin=source, stdout=subprocess.PIPE)
 
     def report(self):
-        """Uses up the connections that are left, some at once, and gives the status and the report."""
+        """Uses up the connections that are left, some at once, and gives the status and the report. An element that does not end is killed."""
         end = time.monotonic() + PATIENCE
         while self.process.poll() is None and time.monotonic() < end:
             tried = [connected(self.port, self.process) for _ in range(AT_ONCE)]
             for connection in filter(None, tried):
                 connection.close()
-        report, _ = self.process.communicate(timeout=PATIENCE)
+        try:
+            report, _ = self.process.communicate(timeout=PATIENCE)
+        finally:
+            self.kill()
         return self.process.returncode, report.decode()
 
     def kill(self):
-        self.process.kill()
+        forget(self.process)
         self.process.communicate()
 
 
