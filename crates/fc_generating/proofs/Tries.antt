@@ -1,5 +1,5 @@
 -- What steps come to, up to the first that can't be made.
-use Rattle.std.proofs.Common.{◌≡◌, ◌∙◌, ◌++◌, ℕ, Bool, true, false, List, [], ◌∷◌, None, Some, refl, sym, ap}
+use Rattle.std.proofs.Common.{◌≡◌, ◌∙◌, ◌++◌, ℕ, List, [], ◌∷◌, None, Some, refl, sym, ap}
 use Rattle.fc_documents.specs.declared.transaction.PlanTxn.{PlanTxn}
 use Rattle.std.specs.List.{fold}
 use Rattle.fc_scripts.specs.Scripts.{Scripted}
@@ -13,9 +13,8 @@ use Rattle.fc_world.specs.Worlds.{WorldState, first_world}
 use Rattle.fc_world.specs.WorldSteps.{fault_of, happens, run}
 use Rattle.fc_world.specs.declared.faults.WorldFault.{WorldFault}
 use Rattle.fc_world.specs.declared.sent.Parcel.{Parcel}
-use Rattle.fc_world.specs.declared.setting.Setting.{Setting}
 use Rattle.fc_world.proofs.Running.{run_more}
-use Rattle.fc_generating.specs.Trying.{last_world, tried, tried_behind, tried_by}
+use Rattle.fc_generating.specs.Trying.{last_world, tried, tried_by}
 
 -- a step that a text can say has a round where it begins a life
 pub has_round : (s : Step) → CanStep s → HasRound s
@@ -44,22 +43,7 @@ pub unmade : (p q : Played) (place : ℕ) (s : Step) (rest : List (ℕ × Step))
 unmade p q place s rest f why is =
     ap (λ f. tried_by f (tried p.setting.transactions (happens p.setting.transactions (world_of p) (place, s)) rest) (world_of p)) why ∙ sym (ap world_of is)
 
--- one step more of many
-pub goes_on : (p q : Played) (x : ℕ × Step) (all rest : List (ℕ × Step)) (whole : WorldState) (b : Bool) → b ≡ true → all ≡ x ∷ rest → q.setting ≡ p.setting
-    → ((xs : List (ℕ × Step)) → tried p.setting.transactions (world_of p) (x ∷ xs) ≡ tried_behind b p.setting.transactions (world_of q) xs)
-    → tried p.setting.transactions (world_of p) all ≡ whole → tried q.setting.transactions (world_of q) rest ≡ whole
-goes_on p q x all rest whole b is split same told come =
-    ap (λ (s : Setting). tried s.transactions (world_of q) rest) same ∙ sym (ap (λ b. tried_behind b p.setting.transactions (world_of q) rest) is) ∙ sym (told rest)
-    ∙ sym (ap (tried p.setting.transactions (world_of p)) split) ∙ come
-
--- the last of them
-pub ends_here : (p q : Played) (x : ℕ × Step) (all rest : List (ℕ × Step)) (whole : WorldState) (b : Bool) → b ≡ false → all ≡ x ∷ rest
-    → ((xs : List (ℕ × Step)) → tried p.setting.transactions (world_of p) (x ∷ xs) ≡ tried_behind b p.setting.transactions (world_of q) xs)
-    → tried p.setting.transactions (world_of p) all ≡ whole → world_of q ≡ whole
-ends_here p q x all rest whole b is split told come =
-    sym (ap (λ b. tried_behind b p.setting.transactions (world_of q) rest) is) ∙ sym (told rest) ∙ sym (ap (tried p.setting.transactions (world_of p)) split) ∙ come
-
--- and the last world
+-- the last world
 pub comes_to : (script : Scripted) (p q : Played) (steps : List (ℕ × Step)) → p ≡ begins_with (setting_of script) → steps ≡ script.steps
     → world_of q ≡ tried p.setting.transactions (world_of p) steps → world_of q ≡ last_world script
 comes_to script p q steps begins same is =
@@ -68,13 +52,13 @@ comes_to script p q steps begins same is =
 -- ---- steps that can all be made, and those up to one that can't be
 pub all_made : (ts : List PlanTxn) (w : WorldState) (steps : List (ℕ × Step)) → AreMade ts w steps → tried ts w steps ≡ run ts w steps
 all_made ts w [] can = refl
-all_made ts w (x ∷ xs) can = ap (λ f. tried_by f (tried ts (happens ts w x) xs) w) can.0 ∙ all_made ts (happens ts w x) xs can.1.1
+all_made ts w (x ∷ xs) can = ap (λ f. tried_by f (tried ts (happens ts w x) xs) w) can.0 ∙ all_made ts (happens ts w x) xs can.2
 
 pub made_up_to : (ts : List PlanTxn) (w : WorldState) (front rest : List (ℕ × Step)) (x : ℕ × Step) (f : WorldFault) → AreMade ts w front → fault_of ts (run ts w front) x.1 ≡ Some f
     → tried ts w (front ++ x ∷ rest) ≡ run ts w front
 made_up_to ts w [] rest x f can why = ap (λ g. tried_by g (tried ts (happens ts w x) rest) w) why
 made_up_to ts w (y ∷ ys) rest x f can why =
-    ap (λ g. tried_by g (tried ts (happens ts w y) (ys ++ x ∷ rest)) w) can.0 ∙ made_up_to ts (happens ts w y) ys rest x f can.1.1 why
+    ap (λ g. tried_by g (tried ts (happens ts w y) (ys ++ x ∷ rest)) w) can.0 ∙ made_up_to ts (happens ts w y) ys rest x f can.2 why
 
 -- ---- the trail of messages behind others
 folded : {A B : Type 0} (f : B → A → B) (b : B) (xs ys : List A) → fold f b (xs ++ ys) ≡ fold f (fold f b xs) ys
