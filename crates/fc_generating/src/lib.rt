@@ -8,4 +8,4 @@ mod summary;
 mod trying;
 
 pub use command::generate;
-pub use laws::trails_go_on;
+pub use laws::{steps_are_made_in_order, trails_go_on};
