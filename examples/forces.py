@@ -8,7 +8,7 @@ As a filter, from standard input to standard output:
     python3 forces.py make < text          what `forces make` writes
 
 Bytes that are no message end `json` and `show` with status 6, and their last line tells why; what is no text ends `make` with status 5
-and one line, and lines that are no messages end `bytes` with status 5 and a word on standard error.
+and one line, and lines that are no messages end `bytes` with status 5 and one on standard error that tells why.
 
 As a module, a query and what comes back:
 
@@ -716,86 +716,139 @@ def path_to_json(path):
     return made
 
 
+class NoMessage(ValueError):
+    """What stands as JSON tells no message, and why."""
+
+
+def told_once(pairs):
+    """The object of these keys with their values. A key may stand in it once."""
+    made = {}
+    for key, value in pairs:
+        if key in made:
+            raise NoMessage(f"the key {json.dumps(key)} stands twice")
+        made[key] = value
+    return made
+
+
+def read_json(line):
+    """What stands in a line as JSON."""
+    try:
+        return json.loads(line, object_pairs_hook=told_once)
+    except NoMessage:
+        raise
+    except ValueError:
+        raise NoMessage("it is no JSON") from None
+
+
+def an_object(made):
+    if not isinstance(made, dict):
+        raise NoMessage(f"{json.dumps(made)} is no object")
+    return made
+
+
 def known_keys(made, *keys):
-    """What stands at each of the keys, and None where nothing does. Other keys raise ValueError."""
-    for key in made:
+    """The object, which has no other keys."""
+    for key in an_object(made):
         if key not in keys:
-            raise ValueError(f"the key {key!r} may not stand here")
-    return [made.get(key) for key in keys]
+            raise NoMessage(f"the key {json.dumps(key)} may not stand here")
+    return made
+
+
+def needed(made, key):
+    """What stands at a key of an object, where something has to."""
+    if made.get(key) is None:
+        raise NoMessage(f"the key {json.dumps(key)} is missing")
+    return made[key]
+
+
+def name_in(made, key, names, what):
+    """The name at a key of an object, which is one of these."""
+    name = needed(made, key)
+    if not isinstance(name, str) or name not in names:
+        raise NoMessage(f"no {what} is called {json.dumps(name)}")
+    return name
+
+
+def elements(made):
+    """What stands in a list, which may be left out."""
+    if made is None:
+        return []
+    if not isinstance(made, list):
+        raise NoMessage(f"{json.dumps(made)} is no list")
+    return made
 
 
 def hexadecimal(word, count):
     """The number of a string of so many digits."""
-    if not re.fullmatch("[0-9A-Fa-f]{%d}" % count, word):
-        raise ValueError(f"{word!r} is not {count} hexadecimal digits")
+    if not isinstance(word, str) or not re.fullmatch("[0-9A-Fa-f]{%d}" % count, word):
+        raise NoMessage(f"{json.dumps(word)} is not {count} hexadecimal digits")
     return int(word, 16)
 
 
 def octets(word):
     """The bytes of a string of two digits for each."""
-    if not re.fullmatch("([0-9A-Fa-f]{2})*", word):
-        raise ValueError(f"{word!r} is not two hexadecimal digits for each byte")
+    if not isinstance(word, str) or not re.fullmatch("([0-9A-Fa-f]{2})*", word):
+        raise NoMessage(f"{json.dumps(word)} is not two hexadecimal digits for each byte")
     return bytes.fromhex(word)
 
 
 def decimal(number):
     """A number of 32 bits."""
     if type(number) is not int or not 0 <= number <= 0xFFFFFFFF:
-        raise ValueError(f"{number!r} is no number of 32 bits")
+        raise NoMessage(f"{json.dumps(number)} is no number of 32 bits")
     return number
 
 
 def from_json(made):
-    """The message that such an object tells."""
-    name = made["type"]
-    if name not in TYPES:
-        raise ValueError(f"no type of message is called {name!r}")
+    """The message that such an object tells, or NoMessage."""
+    name = name_in(an_object(made), "type", TYPES, "type of message")
     held = NUMBERED[name][0] if name in NUMBERED else "selects"
-    _, sender, addressee, correlator, flags, body = known_keys(made, "type", "from", "to", "correlator", "flags", held)
-    message = Message(name, hexadecimal(sender, 8), hexadecimal(addressee, 8))
-    if correlator is not None:
-        message.correlator = hexadecimal(correlator, 16)
-    if flags is not None:
-        message.flags = hexadecimal(flags, 8) & USED_FLAGS
+    known_keys(made, "type", "from", "to", "correlator", "flags", held)
+    message = Message(name, hexadecimal(needed(made, "from"), 8), hexadecimal(needed(made, "to"), 8))
+    if made.get("correlator") is not None:
+        message.correlator = hexadecimal(made["correlator"], 16)
+    if made.get("flags") is not None:
+        message.flags = hexadecimal(made["flags"], 8) & USED_FLAGS
     if name in NUMBERED:
-        message.number = decimal(body)
+        message.number = decimal(needed(made, held))
     else:
-        message.selects = [select_from_json(select) for select in body or []]
+        message.selects = [select_from_json(select) for select in elements(made.get(held))]
     return message
 
 
 def select_from_json(made):
-    lfb_class, instance, operations = known_keys(made, "class", "instance", "operations")
-    return Select(hexadecimal(lfb_class, 8), hexadecimal(instance, 8), [operation_from_json(operation) for operation in operations])
+    known_keys(made, "class", "instance", "operations")
+    operations = [operation_from_json(operation) for operation in elements(needed(made, "operations"))]
+    return Select(hexadecimal(needed(made, "class"), 8), hexadecimal(needed(made, "instance"), 8), operations)
 
 
 def operation_from_json(made):
-    name, code, paths = known_keys(made, "operation", "code", "paths")
-    if name not in OPERATIONS:
-        raise ValueError(f"no operation is called {name!r}")
-    operation = Operation(name, [path_from_json(path) for path in paths or []])
-    if code is not None:
-        operation.code = hexadecimal(code, 2)
+    known_keys(made, "operation", "code", "paths")
+    name = name_in(made, "operation", OPERATIONS, "operation")
+    operation = Operation(name, [path_from_json(path) for path in elements(made.get("paths"))])
+    if made.get("code") is not None:
+        operation.code = hexadecimal(made["code"], 2)
     return operation
 
 
 def path_from_json(made):
-    ids, key, full, sparse, code, paths = known_keys(made, "ids", "key", "full", "sparse", "code", "paths")
-    path = Path([decimal(ident) for ident in ids], paths=[path_from_json(inner) for inner in paths or []])
-    if key is not None:
-        path.key = part_from_json(key)
-    if full is not None:
-        path.full = octets(full)
-    if sparse is not None:
-        path.sparse = [part_from_json(part) for part in sparse]
-    if code is not None:
-        path.code = hexadecimal(code, 2)
+    known_keys(made, "ids", "key", "full", "sparse", "code", "paths")
+    inner = [path_from_json(each) for each in elements(made.get("paths"))]
+    path = Path([decimal(ident) for ident in elements(needed(made, "ids"))], paths=inner)
+    if made.get("key") is not None:
+        path.key = part_from_json(made["key"])
+    if made.get("full") is not None:
+        path.full = octets(made["full"])
+    if made.get("sparse") is not None:
+        path.sparse = [part_from_json(part) for part in elements(made["sparse"])]
+    if made.get("code") is not None:
+        path.code = hexadecimal(made["code"], 2)
     return path
 
 
 def part_from_json(made):
-    ident, value = known_keys(made, "id", "value")
-    return decimal(ident), octets(value)
+    known_keys(made, "id", "value")
+    return decimal(needed(made, "id")), octets(needed(made, "value"))
 
 
 # Values of declared types (RFC 5812, section 4.5). In Python they are bool, int, str for a text, bytes for octets and bytes, a dict by
@@ -1123,12 +1176,15 @@ def filter_json(data, out):
 
 
 def filter_bytes(data, out):
-    """The bytes of messages that stand as JSON, one a line; or nothing, and a word on the first line that is none."""
+    """The bytes of messages that stand as JSON, one a line; or nothing, and why the first line that is none is so."""
     made = []
     for number, line in enumerate(data.splitlines(), 1):
         try:
-            made.append(from_json(json.loads(line)).encode())
-        except (AttributeError, KeyError, RecursionError, Refused, TypeError, ValueError, struct.error) as error:
+            made.append(from_json(read_json(line)).encode())
+        except RecursionError:
+            print(f"line {number} is no message: it nests too deep", file=sys.stderr)
+            return 5
+        except (Refused, ValueError) as error:
             print(f"line {number} is no message: {error}", file=sys.stderr)
             return 5
     out.write(b"".join(made))

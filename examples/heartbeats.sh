@@ -6,8 +6,11 @@
 # It needs xxd, and `rt` where the program is not built yet.
 set -eu
 cd "$(dirname "$0")/.."
+# The program of the sources, which is built where it is not there yet; without them, as in the package, the one that is installed.
 program=crates/forces/out/forces
-if [ ! -x "$program" ]; then
+if [ ! -d crates ]; then
+  program=forces
+elif [ ! -x "$program" ]; then
   (cd crates/forces && rt run -- show </dev/null)
 fi
 

@@ -22,7 +22,7 @@ use Rattle.fc_agreement.proofs.Calm.{LifeCalm, calm_finishes, all_calm}
 use Rattle.fc_agreement.proofs.Binding.{same_life, fresh_life, may_start_is, first_tied}
 use Rattle.fc_agreement.proofs.Runs.{Bound, run_tied, agrees, settles_once, readies, opens_alike, settled_there, says_apart, says_decided, begun_run, mirrors, below_settled, floor_reached, floor_answered, floor_life, bounded}
 
-abbrev Alike : Master → Master → Type 0
+abbrev pub Alike : Master → Master → Type 0
 Alike m n = (n.epoch ≡ m.epoch) × (n.begun ≡ m.begun) × (n.elements ≡ m.elements)
 
 coded_alike : (m : Master) (p code : ℕ) (o : Option Waiting) → Alike m (coded m p code o)
@@ -70,7 +70,7 @@ unread_alike : (m : Master) (p : ℕ) (e : Option ℕ) → Alike m (unread_told 
 unread_alike m p None = (refl, refl, refl)
 unread_alike m p (Some e) = epoch_alike m (at_put m p (unmatched (m.at p))) p e (refl, refl, refl)
 
-heard_alike : (m : Master) (p : ℕ) (i : Message) → Alike m (heard m p i)
+pub heard_alike : (m : Master) (p : ℕ) (i : Message) → Alike m (heard m p i)
 heard_alike m p Setup = cond_all (Alike m) (among p m.elements) (at_put m p (record (m.at p) { met = true })) m (λ _. (refl, refl, refl)) (λ _. (refl, refl, refl))
 heard_alike m p Beat = (refl, refl, refl)
 heard_alike m p (Unread s e) = cond_all (Alike m) (matches s true (m.at p).waits) (unread_told m p e) m (λ _. unread_alike m p e) (λ _. (refl, refl, refl))
@@ -81,7 +81,7 @@ heard_alike m p (Tells s z e t) = cond_all (Alike m) (matches s true (m.at p).wa
 heard_alike m p Other_up = (refl, refl, refl)
 heard_alike m p Other_down = (refl, refl, refl)
 
-one_alike : (k : ℕ) (m : Master) (p : ℕ) (o : Option Body) → Alike m (sends_one k m p o).master
+pub one_alike : (k : ℕ) (m : Master) (p : ℕ) (o : Option Body) → Alike m (sends_one k m p o).master
 one_alike k m p None = (refl, refl, refl)
 one_alike k m p (Some b) = (refl, refl, refl)
 
@@ -92,7 +92,7 @@ all_alike : (k : ℕ) (es : List ℕ) (m : Master) → Alike m (sends_all k es m
 all_alike k [] m = (refl, refl, refl)
 all_alike k (p ∷ ps) m = let n = (sends_one k m p (due m p)).master in alike_then m n (sends_all k ps n).master (one_alike k m p (due m p)) (all_alike k ps n)
 
-finish_alike : (k : ℕ) (m : Master) → Alike m (finish k m).master
+pub finish_alike : (k : ℕ) (m : Master) → Alike m (finish k m).master
 finish_alike k m = all_alike k m.elements (decide_all m)
 
 pub record Numbered (h : Past) (k : ℕ) (m : Master) : Type 0 where

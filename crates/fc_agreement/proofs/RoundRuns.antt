@@ -172,7 +172,7 @@ module _ (w : World) (k : ℕ) (m : Master) (ps : List ℕ) (changes : ℕ → �
         no_more false n = omega arith
 
     -- a notice has arrived, and nothing has changed
-    passed : (v : World) (before : List Sent) (s : Sent) (rest : List Sent) (ph : ℕ → Phase) → Going w k m ps changes scopes v before (s ∷ rest) ph → is_notice s.message ≡ true → Going w k m ps changes scopes v (before ++ s ∷ []) rest ph
+    pub passed : (v : World) (before : List Sent) (s : Sent) (rest : List Sent) (ph : ℕ → Phase) → Going w k m ps changes scopes v before (s ∷ rest) ph → is_notice s.message ≡ true → Going w k m ps changes scopes v (before ++ s ∷ []) rest ph
     passed v before s rest ph g e = record {
       sent = g.sent ∙ sym (append_assoc before (s ∷ []) rest);
       network = g.network;

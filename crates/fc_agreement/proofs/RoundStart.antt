@@ -260,7 +260,7 @@ module _ (net : Network) (steps : List Step) (k : ℕ) (m : Master) (q0 : ℕ) (
     finish_is : finish k (begins m ps changes scopes) ≡ sends_all k m.elements n
     finish_is = ap (λ js. sends_all k m.elements (record m { begun = m.begun + 1; jobs = js })) (decide_last m.epoch m.jobs job calm.set)
 
-    begins_is : happens w (Begin k ps changes scopes) ≡ speaks base k [] (sends_all k m.elements n)
+    pub begins_is : happens w (Begin k ps changes scopes) ≡ speaks base k [] (sends_all k m.elements n)
     begins_is = ap (begin_at w k ps changes scopes) h.runs ∙ ap (begin_by w k ps changes scopes m) h.may ∙ ap (speaks base k []) finish_is
 
     flags : (p : ℕ) → among p ps ≡ true → Flags (m.at p)
@@ -319,7 +319,7 @@ module _ (net : Network) (steps : List Step) (k : ℕ) (m : Master) (q0 : ℕ) (
     none_after [] = refl
     none_after (s ∷ xs) = ap (λ v. s ∷ v) (none_after xs)
 
-    starts : Going w k m ps changes scopes (speaks base k [] (sends_all k m.elements n)) w.sent ([] ++ (sends_all k m.elements n).says) (λ _. Asking 0)
+    pub starts : Going w k m ps changes scopes (speaks base k [] (sends_all k m.elements n)) w.sent ([] ++ (sends_all k m.elements n).says) (λ _. Asking 0)
     starts =
         spoken_going w k m ps changes scopes base n job [] (λ _. Asking 0) w.sent ground turned (ap (λ ss. ss ++ (sends_all k m.elements n).says) (none_after w.sent)) refl
         (subst CalmWorld begins_is (happens_calm w (Begin k ps changes scopes) (all_calm net steps)))

@@ -36,12 +36,12 @@ module _ (p : ℕ) (el : ElementState) (k n : ℕ) (c : Circumstance) (x : Expec
   abbrev m : Stamp
   m = at_count el.epoch n
 
-  taken : (b : Body) → claim_of b ≡ None → configured p el k c m b ≡ next_with el false m (acts p el.epoch c b el.floor el.records)
+  pub taken : (b : Body) → claim_of b ≡ None → configured p el k c m b ≡ next_with el false m (acts p el.epoch c b el.floor el.records)
   taken b i =
       cond_true (c.misfit == 0) _ _ (eq-eqb c.misfit 0 x.smooth.fits) ∙ ap (λ o. by_verdict p el k c m b (judge el.epoch el.master el.sequence k m o)) i
       ∙ ap (by_verdict p el k c m b) (judge_next el.epoch el.master el.sequence k n x.claimed x.sender x.count) ∙ ap (λ q. next_with el q m (acts p el.epoch c b el.floor el.records)) x.smooth.answers
 
-  heard : (b : Body) → hears p el k c m b ≡ by_body p el k c m b
+  pub heard : (b : Body) → hears p el k c m b ≡ by_body p el k c m b
   heard b = cond_false c.unheard (only_says el None) (by_body p el k c m b) x.smooth.heard
 
   pub sot_taken : (y : Txn) (ps : List ℕ) (sc : Scope) → admits p el.epoch y ps false sc ≡ true → clashes sc el.records ≡ false → is_packed el.records ≡ false → state_of y el.records ≡ None → is_below y el.floor ≡ false

@@ -14,7 +14,7 @@ ghost use Rattle.fc_asks.specs.Tables.{found};
 
 use crate::asks::Asks;
 use crate::life::Life;
-use fc_base::{CeId, Duplicate, FeId, List, Memory, Octets, TxnId};
+use fc_base::{CeId, Duplicate, FeId, List, Memory, Octets, Shared, TxnId};
 use fc_msg::{Message, MsgBody};
 use fc_path::{Body, Key, Oper, OperKind, PathData, Select};
 use fc_plans::{
@@ -132,7 +132,7 @@ fn message(life: &Life, element: FeId, count: u32, flags: Flags, body: MsgBody) 
 fn query(life: &Life, element: FeId, count: u32, paths: List<PathData>) -> Result<Message, Memory>
     ensures { IfOk result (λ m. m ≡ spec.query life.now.ce element (correlator (record { life = life.now.epoch; count = count })) paths) }
 {
-    let opers = one(life.alloc, Oper::Paths(OperKind::Get, paths))?;
+    let opers = one(life.alloc, Oper::Paths(OperKind::Get, Shared::of(paths)?))?;
     let selects = one(life.alloc, on_mastership(opers))?;
     Ok(message(
         life,

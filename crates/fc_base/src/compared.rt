@@ -1,9 +1,9 @@
-// Equality of lists, bytes, texts and boxes, which is that of what contracts see.
+// Equality of lists, shared ones too, bytes, texts and boxes, which is that of what contracts see.
 ghost use Rattle.std.specs.Prelude.{◌≡◌, nat_eq};
 ghost use Rattle.std.specs.Cmp.Lexicographic.{pointwise, lists_per, lists_equiv, nat_list_eq_equiv};
 ghost use Rattle.std.specs.Cmp.{partial_equiv_from_equiv};
 
-use crate::{Boxed, List, Octets, Text};
+use crate::{Boxed, List, Octets, Shared, Text};
 
 // Whether two slices have equal items in the same places.
 fn equal<'a, T: PartialEq>(a: &'a [T], b: &'a [T]) -> bool
@@ -23,6 +23,20 @@ impl<T: PartialEq> PartialEq for List<T> {
 }
 
 impl<T: Eq> Eq for List<T> {
+    ghost laws = { lists_equiv T.Eq.laws };
+}
+
+impl<T: PartialEq> PartialEq for Shared<T> {
+    ghost eq = { pointwise T.eq };
+
+    ghost laws = { lists_per T.laws };
+
+    fn eq(&self, other: &Shared<T>) -> bool {
+        equal(self.as_slice(), other.as_slice())
+    }
+}
+
+impl<T: Eq> Eq for Shared<T> {
     ghost laws = { lists_equiv T.Eq.laws };
 }
 

@@ -70,7 +70,7 @@ impl<T: Duplicate + Drop> Duplicate for List<T> {
 fn copies<T: Duplicate + Drop>(alloc: Global, items: &[T]) -> Result<Vec<T>, Memory>
     ensures { IfOk result (λ others. others.items ≡ items.now) }
 {
-    let mut others = Vec::new(alloc);
+    let mut others = Vec::with_capacity(alloc, items.len())?;
     for item in items {
         others.push(item.copy()?)?;
     }

@@ -1,6 +1,6 @@
 // Messages of an element, and changes.
 use crate::words::bytes_of;
-use fc_base::{Code, List, Memory, Octets, TxnId};
+use fc_base::{Code, List, Memory, Octets, Shared, TxnId};
 use fc_msg::{Message, MsgBody};
 use fc_path::{Body, Key, Oper, OperKind, PathData, Select};
 use fc_wire::Flags;
@@ -43,7 +43,7 @@ fn selects(
     paths: List<PathData>,
 ) -> Result<List<Select>, Memory> {
     let mut opers = List::new(alloc);
-    opers.push(Oper::Paths(kind, paths))?;
+    opers.push(Oper::Paths(kind, Shared::of(paths)?))?;
     let mut selects = List::new(alloc);
     selects.push(Select {
         class: place.0,

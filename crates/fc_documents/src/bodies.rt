@@ -12,7 +12,7 @@ use crate::tables::{ChangeTable, TransactionTable};
 use crate::transaction::PlanTxn;
 use fc_base::{FeId, List, Memory};
 use fc_library::{DocumentRule, LibFault};
-use fc_plans::{Change, ChangeFault, PlanFault};
+use fc_plans::{Change, ChangeFault};
 use fc_text::{TextFault, read_body};
 use std::alloc::Global;
 
@@ -125,11 +125,7 @@ pub fn transactions_of(
 fn can_begin(transaction: &PlanTxn) -> Result<bool, Memory>
     ensures { IfOk result (λ can. can ≡ spec.can_begin transaction.now) }
 {
-    match transaction.plan() {
-        Ok(_) => Ok(transaction.parts.len() <= MOST_PARTICIPANTS),
-        Err(PlanFault::Memory) => Err(Memory),
-        Err(_) => Ok(false),
-    }
+    Ok(transaction.makes_plan()? && transaction.parts.len() <= MOST_PARTICIPANTS)
 }
 
 /// Refuses a transaction that a control element can't begin.

@@ -5,7 +5,7 @@ ghost use Rattle.fc_plans.specs.declared.fault.PlanFault.TheVariants as fault;
 ghost use Rattle.fc_documents.specs.Parts as spec;
 
 use fc_base::{Duplicate, FeId, List, Memory, Text};
-use fc_plans::{Change, PlanFault, TxnPlan};
+use fc_plans::{Change, PlanFault, TxnPlan, whole_fault};
 use std::alloc::Global;
 
 /// A transaction of a document.
@@ -57,6 +57,20 @@ impl Duplicate for PlanTxn {
 }
 
 impl PlanTxn {
+    /// Whether it is a plan: whether `plan` refuses nothing of it.
+    pub fn makes_plan(&self) -> Result<bool, Memory>
+        ensures { IfOk result (λ makes. makes ≡ spec.makes_plan self.now) }
+    {
+        if !self.scoped {
+            return Ok(whole_fault(self.parts.as_slice()).is_none());
+        }
+        match self.plan() {
+            Ok(_) => Ok(true),
+            Err(PlanFault::Memory) => Err(Memory),
+            Err(_) => Ok(false),
+        }
+    }
+
     /// The transaction as a control element begins it. The faults are those of [`TxnPlan::scoped`] where it has scopes, and else those
     /// of [`TxnPlan::of`].
     pub fn plan(&self) -> Result<TxnPlan, PlanFault>

@@ -1,6 +1,6 @@
 pub mod Beats
 pub mod Configs
-pub mod Configured
+pub mod Configuring
 pub mod Fitting
 pub mod Ledgered
 pub mod Openings

@@ -22,7 +22,7 @@ use Rattle.fc_transactions.specs.Order.{configured}
 use Rattle.fc_transactions.specs.State.{TransactionState}
 use Rattle.fc_types.specs.declared.class.Class.{Class}
 use Rattle.fc_element.specs.ElementMachine.{turn, step, is_ce, is_own, is_associated, on_body, by_order, all_get, hearing, hearing_if, id_of, query_outs, settled_in, taking, with_associations, with_transactions, moved_on, watched, is_due, beating, beaten, beats_of}
-use Rattle.fc_element.proofs.Configured.{IsResponse, configured_id, configured_responds}
+use Rattle.fc_element.proofs.Configuring.{IsResponse, configured_id, configured_responds}
 use Rattle.fc_blocks.specs.Settings.{ce_policy, ce_dead}
 use Rattle.fc_element.specs.Runs.{after, IsAssociated, IsNoMoment, WasAccepted, WasHeard, WasLast}
 

@@ -27,7 +27,7 @@ use Rattle.fc_element.specs.ElementMachine.{turn, step, answer_to, heartbeat_of,
 use Rattle.fc_element.specs.Runs.{after, sent, IsAssociated, Asks, Beats, IsCalledFor, WasCalledFor}
 use Rattle.fc_blocks.specs.Settings.{fe_policy, fe_interval}
 use Rattle.fc_element.proofs.Configs.{config_all}
-use Rattle.fc_element.proofs.Configured.{IsResponse}
+use Rattle.fc_element.proofs.Configuring.{IsResponse}
 use Rattle.fc_element.proofs.Runs.{both, kept_responds, named, same_key}
 use Rattle.fc_element.proofs.Telling.{all_append, downs_all, notices_all}
 

@@ -1,3 +1,4 @@
+pub mod Configuration
 pub mod ElementMachine
 pub mod ElementState
 pub mod Notices

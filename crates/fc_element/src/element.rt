@@ -9,6 +9,7 @@ ghost use Rattle.fc_performing.specs.Sending.{CanBeSent, IsSaid, responses};
 ghost use Rattle.fc_reply.specs.Counting.{each_gets};
 ghost use Rattle.fc_reply.specs.Replies.{reply};
 ghost use Rattle.fc_transactions.specs.Order.{configured};
+ghost use Rattle.fc_element.specs.Configuration as configuration;
 ghost use Rattle.fc_element.specs.ElementMachine.{IsProperIn, by_order, down_outs, has_lost, is_due, leaving, moved_on, on_body, on_config, on_message, on_moment, on_query, query_outs, query_selects, remaining_of, settled_in, step, taking};
 ghost use Rattle.fc_element.specs.ElementState.{opened, restarted};
 ghost use Rattle.fc_element.specs.Reports.{report_of};
@@ -16,6 +17,7 @@ ghost use Rattle.fc_blocks.specs.Settings.{settings_in as settings_of};
 ghost use Rattle.std.specs.FinMap.{remove};
 
 use crate::ElIn;
+use crate::configured::{Configured, settled_configuration};
 use crate::live::Telling;
 use crate::notices::told_down;
 use crate::replies::{ALWAYS, answer, one, push_beats, query_answer, setup};
@@ -307,7 +309,7 @@ impl Element {
         ensures ok { OnOk result (self.new ≡ (by_order self.old peer message.now selects.now).state) }
         ensures err { OnErr result (self.new ≡ self.old) }
     {
-        if !can_be_answered(self.alloc, message, selects)? {
+        if !can_be_answered(message, selects) {
             return Ok(List::new(self.alloc));
         }
         if message.dest != self.transactions.id().get() {
@@ -402,6 +404,14 @@ impl Element {
         settings.fe_policy == 1
             && self.clock.saturating_sub(self.last_beat) >= u64::from(settings.fe_interval)
             && self.associations.len() != 0
+    }
+
+    /// The components of the settled configuration that are not live and have another value than at first, by rising class, instance and
+    /// component.
+    pub fn settled(&self) -> Result<List<Configured>, Memory>
+        ensures { IfOk result (λ changes. changes ≡ configuration.configured (settled_in self.now)) }
+    {
+        settled_configuration(self.alloc, self.transactions.ledger())
     }
 
     /// Appends the report: `element ID epoch E ce CE sequence S`; `floor E.N` where a floor is set; `record E.N STATE` for each record of a

@@ -3,6 +3,7 @@
 //! transactions, and tells of events.
 #![tactic(auto)]
 
+mod configured;
 mod element;
 mod input;
 mod laws;
@@ -12,6 +13,7 @@ mod replies;
 mod report;
 mod settled;
 
+pub use configured::Configured;
 pub use element::Element;
 pub use fc_blocks::HeartbeatSettings;
 pub use fc_performing::Out;

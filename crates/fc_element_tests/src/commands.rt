@@ -16,7 +16,11 @@ fn words(alloc: Global, line: &str) -> Result<Vec<String>, Fail> {
 // The values of `element`: the two IDs, the two counts and the address.
 fn values(given: &Command) -> Option<([u32; 4], &str)> {
     match given {
-        Command::Show | Command::Make | Command::Control { .. } => None,
+        Command::Show
+        | Command::Make
+        | Command::World
+        | Command::Gen { .. }
+        | Command::Control { .. } => None,
         Command::Element {
             fe,
             ce,
@@ -46,9 +50,10 @@ fn means(alloc: Global, line: &str, numbers: [u32; 4], address: &str) -> Result<
 }
 
 #[test]
-fn two_commands_are_a_word_each(rt: HostRuntime) -> Result<(), Fail> {
+fn three_commands_are_a_word_each(rt: HostRuntime) -> Result<(), Fail> {
     assert!(rt; matches!(meant(rt.alloc(), "show")?, Some(Command::Show)));
     assert!(rt; matches!(meant(rt.alloc(), "make")?, Some(Command::Make)));
+    assert!(rt; matches!(meant(rt.alloc(), "world")?, Some(Command::World)));
     Ok(())
 }
 
@@ -89,9 +94,11 @@ fn controls(alloc: Global, given: &Command) -> Result<String, Fail> {
             push_addresses(&mut told, addresses.as_slice())?;
             Ok(told)
         }
-        Command::Show | Command::Make | Command::Element { .. } => {
-            Err(Fail::from("another command"))
-        }
+        Command::Show
+        | Command::Make
+        | Command::World
+        | Command::Gen { .. }
+        | Command::Element { .. } => { Err(Fail::from("another command")) }
     }
 }
 
@@ -131,6 +138,7 @@ $
 Show$
 show more$
 make more$
+world more$
 make $
 MAKE$
 show $

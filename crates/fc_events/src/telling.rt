@@ -3,7 +3,7 @@ ghost use Rattle.std.specs.Prelude.{◌≡◌, IfOk};
 ghost use Rattle.fc_events.specs.Telling as spec;
 
 use crate::{EventPlace, Notice, Subscriptions};
-use fc_base::{Duplicate, List, Memory, Octets};
+use fc_base::{Duplicate, List, Memory, Octets, Shared};
 use fc_path::{Body, Oper, OperKind, PathData, Select};
 use fc_types::{Class, FE_PROTOCOL, Library, with_id};
 use std::alloc::Global;
@@ -43,7 +43,7 @@ fn reporting(alloc: Global, class: u32, instance: u32, path: PathData) -> Result
     let mut paths = List::new(alloc);
     paths.push(path)?;
     let mut opers = List::new(alloc);
-    opers.push(Oper::Paths(OperKind::Report, paths))?;
+    opers.push(Oper::Paths(OperKind::Report, Shared::of(paths)?))?;
     Ok(Select {
         class,
         instance,

@@ -1,5 +1,5 @@
 // The words of a line: bytes as hexadecimal digits, and spots as `CLASS/INSTANCE/STEP/STEP`, where a step is an ID or `KEY=BYTES`.
-use fc_base::{List, Memory, Octets};
+use fc_base::{List, Memory, Octets, Shared};
 use fc_modes::Mode;
 use fc_path::{Body, Oper, OperKind, PathData, Select, Spot, Step};
 use fc_wire::Ilv;
@@ -123,7 +123,7 @@ pub(crate) fn select_of(
     Ok(Select {
         class,
         instance,
-        opers: one(alloc, Oper::Paths(kind, paths))?,
+        opers: one(alloc, Oper::Paths(kind, Shared::of(paths)?))?,
     })
 }
 

@@ -1,6 +1,6 @@
 // Long lists of operations, a table with all its entries, and a long key in front of many leaves.
 use crate::configs::{gives, has_entries, opened};
-use fc_base::{List, Memory, Octets};
+use fc_base::{List, Memory, Octets, Shared};
 use fc_exec::exec;
 use fc_modes::Mode;
 use fc_path::{Body, Key, Oper, OperKind, PathData, Select};
@@ -48,7 +48,7 @@ fn select(
     paths: List<PathData>,
 ) -> Result<Select, Memory> {
     let mut opers = List::new(alloc);
-    opers.push(Oper::Paths(kind, paths))?;
+    opers.push(Oper::Paths(kind, Shared::of(paths)?))?;
     Ok(Select {
         class: pair.0,
         instance: pair.1,

@@ -70,7 +70,7 @@ there_now source peer =
     (get-insert nat_cmp_total none_yet source (heard_at 0 peer) source ∙ ap (λ b. cond {A = Option Heard} b (Some (heard_at 0 peer)) (get none_yet source)) ((eq_by_cmp_equiv nat_cmp_total).refl source))
 
 -- the element with this association alone
-abbrev joined : MachineElement → ℕ → ℕ → MachineElement
+abbrev pub joined : MachineElement → ℕ → ℕ → MachineElement
 joined el source peer = record {
   epoch = el.epoch;
   master = el.master;
@@ -115,7 +115,7 @@ module _ (p : ℕ) (instances : List (ℕ × ℕ)) (el : MachineElement) (source
     abbrev ended : MachineStep → List (Fact Operation) → MachineStep
     ended r fs = record { element = r.element; outs = []; facts = r.facts ++ fs }
 
-    goes_on : (v : Verdict) (fs : List (Fact Operation)) → judge el.epoch el.master el.sequence source (stamp m.corr) (claim_of body) ≡ v → steps g p (both_inputs source peer conf) (restarted el) fs ≡ ended (by v) fs
+    pub goes_on : (v : Verdict) (fs : List (Fact Operation)) → judge el.epoch el.master el.sequence source (stamp m.corr) (claim_of body) ≡ v → steps g p (both_inputs source peer conf) (restarted el) fs ≡ ended (by v) fs
     goes_on v fs j =
         ap (λ (r : MachineStep). steps g p (Arrived peer source (Configure conf) ∷ []) r.element (r.facts ++ fs)) joins ∙ ap (λ (r : MachineStep). ended r fs) (configures v j)
 
@@ -139,21 +139,21 @@ module _ (p ce : ℕ) (opening : Stored) where
   abbrev instances : List (ℕ × ℕ)
   instances = opening.instances
 
-  abbrev ground : Ground Stored Operation (List Subscription)
+  abbrev pub ground : Ground Stored Operation (List Subscription)
   ground = basis instances
 
-  abbrev life : List (List (Input Operation)) → MachineStep
+  abbrev pub life : List (List (Input Operation)) → MachineStep
   life runs = with_restarts ground p runs (new_element opening [] ce) []
 
-  keeps : (runs : List (List (Input Operation))) → Keeps ground p ce (life runs).element (life runs).facts
+  pub keeps : (runs : List (List (Input Operation))) → Keeps ground p ce (life runs).element (life runs).facts
   keeps runs = element_keeps ground (lawful (λ (n : Notice). 0) 0 instances) p opening [] ce runs
 
   -- the element has come here as one of the machine
-  record At (s : TransactionState) (fs : List (Fact Operation)) : Type 0 where
-    runs : List (List (Input Operation))
-    means : Means instances p s (life runs).element
-    facts : fs ≡ (life runs).facts
-    named : IsNamed s
+  pub record At (s : TransactionState) (fs : List (Fact Operation)) : Type 0 where
+    pub runs : List (List (Input Operation))
+    pub means : Means instances p s (life runs).element
+    pub facts : fs ≡ (life runs).facts
+    pub named : IsNamed s
 
   module _ (s : TransactionState) (fs : List (Fact Operation)) (at : At s fs) where
     abbrev el : MachineElement
@@ -162,10 +162,10 @@ module _ (p ce : ℕ) (opening : Stored) where
     abbrev hs : List Holding
     hs = s.ledger.holdings
 
-    held_there : AreHeld (holdings el.records)
+    pub held_there : AreHeld (holdings el.records)
     held_there = let k = keeps at.runs in are_held (λ (n : Notice). 0) 0 instances el.records k.apart k.inside
 
-    fits : (source peer : ℕ) → Fit instances (joined el source peer) hs
+    pub fits : (source peer : ℕ) → Fit instances (joined el source peer) hs
     fits source peer = record {
       held = at.means.held;
       instances_are = at.means.instances_are;
@@ -207,18 +207,18 @@ module _ (p ce : ℕ) (opening : Stored) where
           (λ e. subst (λ n. is_epoch n ≡ true) at.means.epoch
           (at.named.epoch (ap (λ n. n == 0) at.means.epoch ∙ next_epoch el.epoch el.master el.sequence m.source (stamp m.corr) (claim_in asked) (sym e))))
 
-      goes_here : Goes instances p (configured s came.peer m came.selects) (by_verdict ground p now_el came.peer m.source (taken_as m came.selects body ops) (mode_of m.flags.em) verdict)
+      pub goes_here : Goes instances p (configured s came.peer m came.selects) (by_verdict ground p now_el came.peer m.source (taken_as m came.selects body ops) (mode_of m.flags.em) verdict)
       goes_here =
           let is : s ≡ there = means_is instances p s el at.means in
           subst (λ (t : TransactionState). Goes instances p (configured t came.peer m came.selects) (by_verdict ground p now_el came.peer m.source (taken_as m came.selects body ops) (mode_of m.flags.em) verdict)) (sym is) goes_there
 
-      abbrev run : List (Input Operation)
+      abbrev pub run : List (Input Operation)
       run = both_inputs m.source came.peer (taken_as m came.selects body ops)
 
-      abbrev machine_step : MachineStep
+      abbrev pub machine_step : MachineStep
       machine_step = by_verdict ground p now_el came.peer m.source (taken_as m came.selects body ops) (mode_of m.flags.em) verdict
 
-      life_is : life (at.runs ++ run ∷ []) ≡ record { element = machine_step.element; outs = []; facts = machine_step.facts ++ (life at.runs).facts }
+      pub life_is : life (at.runs ++ run ∷ []) ≡ record { element = machine_step.element; outs = []; facts = machine_step.facts ++ (life at.runs).facts }
       life_is =
           run_more ground p at.runs run (new_element opening [] ce) []
           ∙ ap (λ (t : MachineStep). record { element = t.element; outs = []; facts = t.facts })
@@ -235,7 +235,7 @@ module _ (p ce : ℕ) (opening : Stored) where
         named = named_stay s came.peer m came.selects at.named;
       }
 
-  abbrev AtLife : Life → Type 0
+  abbrev pub AtLife : Life → Type 0
   AtLife here = At here.state here.facts
 
   all_there : (came : List Came) → OfControls came → (s : TransactionState) (fs : List (Fact Operation)) → At s fs → AtLife (life_from came s fs)
@@ -292,7 +292,7 @@ module _ (p ce : ℕ) (opening : Stored) (s : TransactionState) (fs : List (Fact
       marks_seen s.ledger.holdings ∙ ap (map (λ (k : Kept). k.1.0)) at.means.held ∙ marks_kept opening.instances there_el.records
       ∙ ap (λ is. map (λ (h : standing.Holding). marking h.scope is) (holdings there_el.records)) (sym at.means.instances_are)
 
-  settled_there : settled_now s.ledger ≡ there_el.settled
+  pub settled_there : settled_now s.ledger ≡ there_el.settled
   settled_there =
       ap (settled (map (λ (h : Holding). h.mark) s.ledger.holdings)) at.means.store ∙ ap (λ marks. settled marks (standing there_el.settled (holdings there_el.records))) marks_are
       ∙ settled_is there_el.settled (holdings there_el.records) (held_there p ce opening s fs at) at.means.settled at.means.whole
@@ -375,7 +375,7 @@ life_fits id ce opening came bare whole owned =
     fits_there id ce opening here.state here.facts (all_there id ce opening came owned (opened id ce opening) [] (begins id ce opening bare whole))
 
 -- ---- the rest of what the machine keeps
-life_at : (id ce : ℕ) (opening : Stored) (came : List Came) → IsSettled opening → IsWhole opening → OfControls came → AtLife id ce opening (life_of id ce opening came)
+pub life_at : (id ce : ℕ) (opening : Stored) (came : List Came) → IsSettled opening → IsWhole opening → OfControls came → AtLife id ce opening (life_of id ce opening came)
 life_at id ce opening came bare whole owned = all_there id ce opening came owned (opened id ce opening) [] (begins id ce opening bare whole)
 
 none_known : (ns : List (Entry Operation)) → ns ≡ [] → bares ns ≡ []

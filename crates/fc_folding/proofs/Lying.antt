@@ -30,10 +30,10 @@ use Rattle.fc_store.specs.Stores.{Stored}
 use Rattle.fc_wire.specs.declared.ilvs.Ilv.{Ilv}
 
 -- ---- each leaf lies at the instance of its select
-abbrev IsAt : ℕ → ℕ → Leaf → Type 0
+abbrev pub IsAt : ℕ → ℕ → Leaf → Type 0
 IsAt c i l = (l.spot.class ≡ c) × (l.spot.instance ≡ i)
 
-abbrev AreAt : ℕ → ℕ → List Leaf → Type 0
+abbrev pub AreAt : ℕ → ℕ → List Leaf → Type 0
 AreAt c i ls = AllByRecursion (IsAt c i) ls
 
 abbrev BodyLies : Body → Type 0
@@ -71,7 +71,7 @@ at_append : (c i : ℕ) (xs ys : List Leaf) → AreAt c i xs → AreAt c i ys �
 at_append c i [] ys a b = b
 at_append c i (x ∷ xs) ys a b = (a.0, at_append c i xs ys a.1 b)
 
-all_leaves : (ps : List PathData) → AllLie ps → (k : OperKind) (c i : ℕ) (steps : List Step) → AreAt c i (flat_map (λ p. path_leaves k c i p steps) ps)
+pub all_leaves : (ps : List PathData) → AllLie ps → (k : OperKind) (c i : ℕ) (steps : List Step) → AreAt c i (flat_map (λ p. path_leaves k c i p steps) ps)
 all_leaves [] h k c i steps = tt
 all_leaves (p ∷ ps) h k c i steps = at_append c i (path_leaves k c i p steps) (flat_map (λ p. path_leaves k c i p steps) ps) (h.0 k c i steps) (all_leaves ps h.1 k c i steps)
 
@@ -100,7 +100,7 @@ every_lies = ind-PathData BodyLies PathLies
     (λ x y is. subst (λ l. BodyLies (roll-Body l)) is (layer_lies y))
     (λ x y is. path_lies (roll-PathData x) (subst BodyLies (ap (λ (z : PathData-F Body PathData). z.body) is) y.body.1))
 
-all_lie : (ps : List PathData) → AllLie ps
+pub all_lie : (ps : List PathData) → AllLie ps
 all_lie [] = tt
 all_lie (p ∷ ps) = (every_lies p, all_lie ps)
 

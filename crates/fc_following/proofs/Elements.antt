@@ -64,6 +64,7 @@ use Rattle.fc_following.specs.Networks.{ce_of}
 use Rattle.fc_following.proofs.Facts.{AreAt, config_at, tell_more}
 use Rattle.fc_following.proofs.Lasting.{Lasts, lasts, more_came}
 use Rattle.fc_following.proofs.Pairs.{pairs_more}
+use Rattle.fc_protocol.proofs.Puts.{both_first, both_second}
 
 -- What an element is after a turn, what it has sent, and what has happened, as the protocol's element el, what is said there and the facts of it.
 pub record Turned (s : Setting) (fs : List (Fact Operation)) (n : Node) (t : Turn) (el : protocol.ElementState) (gs : List facts.Fact) (ts : List Sent) : Type 0 where
@@ -182,18 +183,10 @@ module _ (e : ElementState) (k : ℕ) (m : Message) (life : Lives) (p corr : ℕ
   query_unheard said.Plain q none = absurd cc
 
 -- ---- the transactions that an element tells of
-and_second : (a b : Bool) → (a && b) ≡ true → b ≡ true
-and_second true b is = is
-and_second false b is = absurd cc
-
-and_first : (a b : Bool) → (a && b) ≡ true → a ≡ true
-and_first true b is = refl
-and_first false b is = absurd cc
-
 small_epoch : (x : Txn) → is_name x ≡ true → x.epoch < 2 ^ 32
 small_epoch x name =
-    let epoch = and_first (is_epoch x.epoch) (not (x.number == 0)) name in
-    below x.epoch (2 ^ 32) (and_second (not (x.epoch % 256 == 0)) (nat_lt x.epoch (2 ^ 32)) (and_second (not (x.epoch / 256 == 0)) (not (x.epoch % 256 == 0) && nat_lt x.epoch (2 ^ 32)) epoch))
+    let epoch = both_first (is_epoch x.epoch) (not (x.number == 0)) name in
+    below x.epoch (2 ^ 32) (both_second (not (x.epoch % 256 == 0)) (nat_lt x.epoch (2 ^ 32)) (both_second (not (x.epoch / 256 == 0)) (not (x.epoch % 256 == 0) && nat_lt x.epoch (2 ^ 32)) epoch))
   where
     below : (m n : ℕ) → nat_lt m n ≡ true → m < n
     below m n h = grind arith
@@ -223,7 +216,7 @@ choice true true true true true none one other last own mode = absurd cc
 choice true true true true false none one other last own mode = inr (refl, refl)
 
 module _ (e : ElementState) (k : ℕ) (m : Message) (selects : List Select) (config : m.body ≡ body.Config selects) (own : is_own e m ≡ true) (mode : m.flags.em ≡ 1) where
-  as_chosen : step e (Arrived k m)
+  pub as_chosen : step e (Arrived k m)
       ≡ chosen (is_ce m.source) (is_associated e m) (results_fit selects && message_fits m) (is_own e m) (m.flags.em == 0) (turn e []) (all_get e k m selects 4) (all_get e k m selects 18) (taking e k m (configured e.transactions k m selects))
   unfolding step
   as_chosen = ap (λ (b : MsgBody). if is_ce m.source then on_body e k m b else turn e []) config
@@ -296,7 +289,7 @@ module _ (s : Setting) (own : list_all is_new s.library ≡ true) (fs : List (Fa
     abbrev h : Heard
     h = heard_of now el.kept m selects codes
 
-    heard_so : hears n.id el (ce_of s k) c st b ≡ h
+    pub heard_so : hears n.id el (ce_of s k) c st b ≡ h
     heard_so =
         sym (heard_as_read n.id el (ce_of s k) c st b)
         ∙ same_hears n.id now.id el (keeping now el.kept) (ce_of s k) m.source c st (stamp m.corr) (as_read b) (body_of (stamp m.corr).count a) (sym lasts_on.own) (sym (like_is now el is.like)) (sym request.source) (sym request.stamped)
@@ -332,7 +325,7 @@ module _ (s : Setting) (own : list_all is_new s.library ≡ true) (fs : List (Fa
         (both_sent s n.id (responses k heard.response) heard.notices (spoken n.id k h.says) (murmurs n.id c.others)
         (response_sent s n.id k heard.response h.says (heard.says mastership) (reply_tells answers.response h.says (answers.says mastership))) (others_sent s n.id heard.notices heard.others))
 
-    taken_turned : Turned s fs n t h.element h.facts (spoken n.id k h.says ++ murmurs n.id c.others)
+    pub taken_turned : Turned s fs n t h.element h.facts (spoken n.id k h.says ++ murmurs n.id c.others)
     taken_turned = record {
       element = new_element;
       sent = says_sent;

@@ -14,12 +14,13 @@ use Rattle.fc_protocol.specs.Trace as facts
 use Rattle.fc_protocol.specs.WorldSteps.{Begun, World}
 use Rattle.fc_store.specs.Stores.{Pairwise}
 use Rattle.fc_world.specs.Lookups.{controller_in, ids_of, node_with, with_controller}
+use Rattle.fc_world.specs.Settings.{IsNetwork}
 use Rattle.fc_world.specs.Worlds.{Standing, WorldState, upward}
 use Rattle.fc_world.specs.WorldSteps.{with_turn}
 use Rattle.fc_world.specs.declared.nodes.Node.{Node}
 use Rattle.fc_world.specs.declared.sent.Parcel.{Parcel}
 use Rattle.fc_world.specs.declared.setting.Setting.{Setting}
-use Rattle.fc_following.specs.Following.{Follows, IsController, IsElement, IsNetwork, IsSent, RunsSo, core_in}
+use Rattle.fc_following.specs.Following.{Follows, IsController, IsElement, IsSent, RunsSo, core_in}
 use Rattle.fc_following.proofs.Controllers.{ces_stay, here, there}
 use Rattle.fc_following.proofs.Elements.{Turned}
 use Rattle.fc_following.proofs.Facts.{AreAt, tell_same_still}

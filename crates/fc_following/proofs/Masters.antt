@@ -1,8 +1,8 @@
 -- What one life of a control element makes of a message and of each call is what the protocol's master makes of it.
-use Rattle.std.proofs.Common.{◌≡◌, ◌≤◌, ℕ, ◌==◌, ◌&&◌, nat_le, length, arith, Bool, true, false, List, [], ◌∷◌, ◌++◌, Option, Some, None, refl, sym, ap, ◌∙◌, subst, if◌then◌else◌}
+use Rattle.std.proofs.Common.{◌≡◌, ◌<◌, ◌≤◌, ◌^◌, ℕ, ◌==◌, nat_le, length, arith, Bool, true, false, List, [], ◌∷◌, ◌++◌, Option, Some, None, refl, sym, ap, ◌∙◌, subst, if◌then◌else◌}
 use Rattle.std.proofs.lemmas.List.{map-append}
 use Rattle.std.specs.List.{AllByRecursion, list_all}
-use Rattle.fc_base.specs.Ids.{Txn}
+use Rattle.fc_base.specs.Ids.{IsFe, Txn}
 use Rattle.fc_hearing.specs.Hearing.{IsHeardAs, is_setup, is_wish}
 use Rattle.fc_jobs.specs.Plans.{changes_in, participants_of, scopes_in}
 use Rattle.fc_jobs.specs.Sending.{spelled}
@@ -22,19 +22,21 @@ use Rattle.fc_plans.specs.declared.plan.Part.{Part}
 use Rattle.fc_protocol.specs.Collections.{among, or_next}
 use Rattle.fc_protocol.specs.MasterMachine.{Master, Speaks, Waiting, again, at_once, begin_refusal, begins, finish, forget_refusal, forgets, gives_up, heard, plain_refusal, sends_one}
 use Rattle.fc_protocol.specs.Messages as said
-use Rattle.fc_protocol.specs.Messages.{Body, Plain, Sent, sent}
+use Rattle.fc_protocol.specs.Messages.{Plain, Sent, sent}
 use Rattle.fc_store.specs.Stores.{Pairwise}
 use Rattle.fc_wellformed.proofs.Said.{begin_clear, forget_clear, give_up_clear, plain_clear, resend_clear, step_clear}
 use Rattle.fc_wellformed.specs.WellFormed.{AreWellFormed, HasChanges, IsChange, SpeaksClearly}
+use Rattle.fc_world.specs.Settings.{FitsWords}
 use Rattle.fc_world.specs.Worlds.{Ruling, downward}
 use Rattle.fc_world.specs.WorldSteps.{Spoke, begins_in, changes_at, forgets_in, gives_up_in, hears, resends_in}
 use Rattle.fc_world.specs.declared.sent.Parcel.TheVariants.{Downward}
 use Rattle.fc_world.specs.declared.setting.Setting.{Setting}
-use Rattle.fc_following.specs.Following.{FitsWords, GoesUpAs, IsLife, IsSent}
+use Rattle.fc_following.specs.Following.{GoesUpAs, IsLife, IsSent}
 use Rattle.fc_following.specs.Networks.{ce_of}
 use Rattle.fc_following.proofs.Pairs.{pairs_more}
 use Rattle.fc_following.proofs.Requests.{spelled_sent}
 use Rattle.fc_following.proofs.Speaking.{again_of, finish_of, one_of}
+use Rattle.fc_protocol.proofs.Puts.{both_first, both_second}
 
 -- the life after something is the protocol's master m, and has said this
 pub record SpeaksAs (s : Setting) (k ce : ℕ) (spoke : Spoke) (m : Master) (ts : List Sent) : Type 0 where
@@ -43,11 +45,14 @@ pub record SpeaksAs (s : Setting) (k ce : ℕ) (spoke : Spoke) (m : Master) (ts 
   pub sent : Pairwise (IsSent s) (downward k spoke.outs) ts
 
 -- ---- the numbers of a plan
-parts_words : (parts : List Part) → AllByRecursion FitsWords parts → AllByRecursion IsWord (participants_of parts)
-parts_words [] words = tt
-parts_words (part ∷ parts) words = (words.0.0, parts_words parts words.1)
+fits_word : (n : ℕ) → IsFe n → IsWord n
+fits_word n fe = let below : n < 2 ^ 30 = fe.1 in grind arith
 
-scopes_words : (parts : List Part) → AllByRecursion FitsWords parts → (p : ℕ) → AreInstances (scopes_in parts p)
+pub parts_words : (parts : List Part) → AllByRecursion FitsWords parts → AllByRecursion IsWord (participants_of parts)
+parts_words [] words = tt
+parts_words (part ∷ parts) words = (fits_word part.element words.0.0, parts_words parts words.1)
+
+pub scopes_words : (parts : List Part) → AllByRecursion FitsWords parts → (p : ℕ) → AreInstances (scopes_in parts p)
 scopes_words [] words p = tt
 scopes_words (part ∷ parts) words p = by (p == part.element) (scopes_words parts words.1 p)
   where
@@ -55,23 +60,15 @@ scopes_words (part ∷ parts) words p = by (p == part.element) (scopes_words par
     by true more = words.0.1
     by false more = more
 
-both_left : (a b : Bool) → (a && b) ≡ true → a ≡ true
-both_left true b is = refl
-both_left false b is = absurd cc
-
-both_right : (a b : Bool) → (a && b) ≡ true → b ≡ true
-both_right true b is = is
-both_right false b is = absurd cc
-
 narrow_in : (parts : List Part) → list_all has_scope parts ≡ true → (p : ℕ) → length (scopes_in parts p) ≤ 4096
 narrow_in [] all p = omega arith
-narrow_in (part ∷ parts) all p = by (p == part.element) (narrow_in parts (both_right (has_scope part) (list_all has_scope parts) all) p)
+narrow_in (part ∷ parts) all p = by (p == part.element) (narrow_in parts (both_second (has_scope part) (list_all has_scope parts) all) p)
   where
     small : (m n : ℕ) → nat_le m n ≡ true → m ≤ n
     small m n h = grind arith
 
     by : (b : Bool) → length (scopes_in parts p) ≤ 4096 → length (if b then part.scope else scopes_in parts p) ≤ 4096
-    by true more = small (length part.scope) 4096 (both_left (has_scope part) (list_all has_scope parts) all)
+    by true more = small (length part.scope) 4096 (both_first (has_scope part) (list_all has_scope parts) all)
     by false more = more
 
 order_none : (o next : Option PlanFault) → or_next o next ≡ None → next ≡ None
@@ -82,7 +79,7 @@ scopes_hold : (b : Bool) → (if b then None else Some fault.Changes) ≡ None �
 scopes_hold true is = refl
 scopes_hold false is = absurd cc
 
-scopes_narrow : (parts : List Part) → plan_fault parts ≡ None → (p : ℕ) → length (scopes_in parts p) ≤ 4096
+pub scopes_narrow : (parts : List Part) → plan_fault parts ≡ None → (p : ℕ) → length (scopes_in parts p) ≤ 4096
 scopes_narrow parts plan p = narrow_in parts (scopes_hold (list_all has_scope parts) (order_none (order_fault parts) (scope_fault parts) plan)) p
 
 -- ---- what is well formed in two parts

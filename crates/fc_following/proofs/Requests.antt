@@ -1,5 +1,5 @@
 -- What a life spells goes down as the requests that it says.
-use Rattle.std.proofs.Common.{◌≡◌, ◌<◌, ℕ, ◌==◌, ◌&&◌, ◌||◌, not, Bool, true, false, List, [], ◌∷◌, ◌++◌, length, Option, Some, None, refl, sym, ap, ◌∙◌, subst, eqb-true, if◌then◌else◌, ap₂, arith, ◌^◌}
+use Rattle.std.proofs.Common.{◌≡◌, ◌<◌, ℕ, ◌==◌, ◌||◌, not, Bool, true, false, List, [], ◌∷◌, ◌++◌, length, Option, Some, None, refl, sym, ap, ◌∙◌, subst, eqb-true, if◌then◌else◌, ap₂, arith, ◌^◌}
 use Rattle.std.specs.List.{AllByRecursion, list_all, list_any}
 use Rattle.fc_asks.specs.Plans.{selects_of}
 use Rattle.fc_asks.specs.Requests.{request_of}
@@ -32,6 +32,7 @@ use Rattle.fc_world.specs.declared.setting.Setting.{Setting}
 use Rattle.fc_following.specs.Following.{AsksConfig, AsksSo, IsRequest, IsSent, NamesTxn}
 use Rattle.fc_following.specs.Networks.{ce_of}
 use Rattle.fc_following.proofs.Speaking.{AreOf}
+use Rattle.fc_protocol.proofs.Puts.{both_first}
 
 -- ---- a correlator comes back in its halves
 pub stamp_again : (st : Stamp) → st.count < 2 ^ 32 → stamp (correlator st) ≡ st
@@ -99,17 +100,13 @@ shown_oper oper.Commit e = absurd cc
 shown_oper oper.Trcomp e = absurd cc
 shown_oper (oper.CommitResponse code) e = absurd cc
 
-and_left : (a b : Bool) → (a && b) ≡ true → a ≡ true
-and_left true b h = refl
-and_left false b h = absurd cc
-
 or_left : (a b : Bool) → a ≡ true → (a || b) ≡ true
 or_left true b h = refl
 or_left false b h = absurd cc
 
 shown_opers : (os : List Oper) → 0 < length os → list_all changes os ≡ true → list_any is_shown os ≡ true
 shown_opers [] some all = absurd (omega (arith, some))
-shown_opers (o ∷ os) some all = or_left (is_shown o) (list_any is_shown os) (shown_oper o (and_left (changes o) (list_all changes os) all))
+shown_opers (o ∷ os) some all = or_left (is_shown o) (list_any is_shown os) (shown_oper o (both_first (changes o) (list_all changes os) all))
 
 abbrev all_changing : Select → Bool
 all_changing s = list_all changes s.opers
@@ -125,7 +122,7 @@ pub shown_change : (selects : List Select) → ProperSelects types.config select
 shown_change [] proper none = absurd cc
 shown_change (s ∷ ss) proper none =
     or_left (shows s) (list_any shows ss)
-    (shown_opers s.opers proper.1.0.1 (and_left (all_changing s) (list_all all_changing ss) (no_fault (all_change (s ∷ ss)) (is_floor (s ∷ ss)) (is_short (behind no_name (s ∷ ss))) none)))
+    (shown_opers s.opers proper.1.0.1 (both_first (all_changing s) (list_all all_changing ss) (no_fault (all_change (s ∷ ss)) (is_floor (s ∷ ss)) (is_short (behind no_name (s ∷ ss))) none)))
 
 -- whether a Config shows a code
 abbrev body_shows : MsgBody → Bool

@@ -1,10 +1,11 @@
 -- Every run of a network element is a run of the protocol's network, and what is promised of that holds of it.
-use Rattle.std.proofs.Common.{◌≡◌, ℕ, ◌==◌, ◌&&◌, ◌||◌, not, Bool, true, false, List, [], ◌∷◌, ◌++◌, map, append_assoc, Option, Some, None, refl, sym, ap, ◌∙◌, subst, arith, if◌then◌else◌}
+use Rattle.std.proofs.Common.{◌≡◌, ℕ, ◌==◌, ◌&&◌, ◌||◌, not, Bool, true, false, List, [], ◌∷◌, ◌++◌, map, append_assoc, append-nil, Option, Some, None, refl, sym, ap, ◌∙◌, subst, arith, if◌then◌else◌}
 use Rattle.std.specs.List.{AllByRecursion}
 use Rattle.fc_abiding.specs.Runs.{life_of}
 use Rattle.fc_agreement.proofs.Numbers.{agree_law, once_law, one_plan_law, ready_law, settled_whole_law}
 use Rattle.fc_agreement.specs.Agreement.{Agree, OnePlan, Ready, SettleOnce}
 use Rattle.fc_blocks.specs.Opening.{opened_store, with_own}
+use Rattle.fc_documents.specs.declared.transaction.PlanTxn.{PlanTxn}
 use Rattle.fc_exec.specs.Operations.{applied}
 use Rattle.fc_exec.specs.declared.operations.Operation.{Operation}
 use Rattle.fc_folding.proofs.Lives.{life_folds}
@@ -23,14 +24,15 @@ use Rattle.fc_protocol.specs.WorldSteps as network
 use Rattle.fc_steps.specs.declared.step.Step.{Step}
 use Rattle.fc_transactions.specs.State.{TransactionState}
 use Rattle.fc_world.specs.Lookups.{controller_in, ids_of, life_of as life_in}
-use Rattle.fc_world.specs.Stages.{node_id}
+use Rattle.fc_world.specs.Played.{AreMade}
+use Rattle.fc_world.specs.Settings.{IsNetwork, node_id}
 use Rattle.fc_world.specs.Worlds.{Standing, WorldState, first_controller, first_node, first_world as first, number_of}
 use Rattle.fc_world.specs.WorldSteps as world
 use Rattle.fc_world.specs.declared.nodes.Node.{Node}
 use Rattle.fc_world.specs.declared.setting.Setting.{Setting}
-use Rattle.fc_following.specs.Following.{Follows, GoesOn, IsController, IsElement, IsNetwork, core_in}
+use Rattle.fc_following.specs.Following.{Follows, GoesOn, IsController, IsElement, core_in}
 use Rattle.fc_following.specs.Networks.{first_ce, network_of}
-use Rattle.fc_following.specs.Promise.{AllFolded, AreMade, Fenced, IsFolded, Settles}
+use Rattle.fc_following.specs.Promise.{AllFolded, Fenced, IsFolded, Settles}
 use Rattle.fc_following.proofs.Controllers.{ces}
 use Rattle.fc_following.proofs.Elements.{same_id}
 use Rattle.fc_following.proofs.Steps.{step_goes}
@@ -129,9 +131,10 @@ run_goes s is (x ∷ xs) w fs a follows made =
           (subst (λ gs. Follows s (world.run s.transactions w (x ∷ xs)) gs (run more.steps (run one.steps a))) (sym (append_assoc (world.facts s.transactions (world.happens s.transactions w x) xs) (world.facts_at w x.1) fs)) more.follows);
     }
 
-none_behind : (fs : List (Fact Operation)) → fs ++ [] ≡ fs
-none_behind [] = refl
-none_behind (f ∷ fs) = ap (λ gs. f ∷ gs) (none_behind fs)
+-- those before them could be made too
+pub made_before : (ts : List PlanTxn) (w : WorldState) (done after : List (ℕ × Step)) → AreMade ts w (done ++ after) → AreMade ts w done
+made_before ts w [] after made = tt
+made_before ts w (x ∷ xs) after made = (made.0, made.1, made_before ts (world.happens ts w x) xs after made.2)
 
 -- ---- of every setting and every list of steps
 module _ (s : Setting) (done : List (ℕ × Step)) (is : IsNetwork s) (made : AreMade s.transactions (first s) done) where
@@ -142,7 +145,7 @@ module _ (s : Setting) (done : List (ℕ × Step)) (is : IsNetwork s) (made : Ar
   trace = world.facts s.transactions (first s) done
 
   pub goes : GoesOn s now trace (first_world (network_of s))
-  goes = subst (λ fs. GoesOn s now fs (first_world (network_of s))) (none_behind trace) (run_goes s is done (first s) [] (first_world (network_of s)) (first_follows s is) made)
+  goes = subst (λ fs. GoesOn s now fs (first_world (network_of s))) (append-nil trace) (run_goes s is done (first s) [] (first_world (network_of s)) (first_follows s is) made)
 
   pub agrees : Agree (bare_facts trace)
   agrees = subst Agree (sym goes.follows.facts) (agree_law (network_of s) goes.steps)

@@ -1,15 +1,12 @@
 -- All that a master says it says as its controller.
-use Rattle.std.proofs.Common.{◌≡◌, ℕ, List, [], ◌∷◌, ◌++◌, Option, Some, None, refl}
+use Rattle.std.proofs.Common.{◌≡◌, ℕ, List, [], ◌∷◌, Option, Some, None, refl}
 use Rattle.std.specs.List.{AllByRecursion}
 use Rattle.fc_protocol.specs.MasterMachine.{Master, Waiting, again, decide_all, due, finish, sends_all, sends_one}
 use Rattle.fc_protocol.specs.Messages.{Body, Sent}
+use Rattle.fc_wellformed.proofs.Keeping.{all_append}
 
 abbrev pub AreOf : ℕ → List Sent → Type 0
 AreOf k ts = AllByRecursion (λ (t : Sent). t.controller ≡ k) ts
-
-pub all_more : {A : Type 0} (P : A → Type 0) (xs ys : List A) → AllByRecursion P xs → AllByRecursion P ys → AllByRecursion P (xs ++ ys)
-all_more P [] ys first more = more
-all_more P (x ∷ xs) ys first more = (first.0, all_more P xs ys first.1 more)
 
 pub one_of : (k : ℕ) (m : Master) (p : ℕ) (b : Option Body) → AreOf k (sends_one k m p b).says
 one_of k m p None = tt
@@ -19,7 +16,7 @@ all_of : (k : ℕ) (ps : List ℕ) (m : Master) → AreOf k (sends_all k ps m).s
 all_of k [] m = tt
 all_of k (p ∷ ps) m =
     let r = sends_one k m p (due m p) in
-    all_more (λ (t : Sent). t.controller ≡ k) r.says (sends_all k ps r.master).says (one_of k m p (due m p)) (all_of k ps r.master)
+    all_append (λ (t : Sent). t.controller ≡ k) r.says (sends_all k ps r.master).says (one_of k m p (due m p)) (all_of k ps r.master)
 
 pub finish_of : (k : ℕ) (m : Master) → AreOf k (finish k m).says
 finish_of k m = all_of k m.elements (decide_all m)

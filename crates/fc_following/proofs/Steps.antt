@@ -1,7 +1,7 @@
 -- Each step that can be made is a step of the protocol's network, or none.
 use Rattle.std.proofs.Common.{◌≡◌, ◌<◌, ℕ, zero, suc, ◌==◌, ◌&&◌, ◌||◌, ◌*◌, ◌+◌, ◌%◌, ◌/◌, ◌^◌, not, nat_lt, Bool, true, false, List, [], ◌∷◌, ◌++◌, map, append-nil, append_assoc, slice_get, Option, Some, None, is_none, is_some, option_map, unwrap_or, refl, sym, ap, ap₂, ◌∙◌, subst, eqb-true, arith, if◌then◌else◌}
 use Rattle.std.specs.List.{AllByRecursion}
-use Rattle.fc_base.specs.Ids.{IsRound, Txn}
+use Rattle.fc_base.specs.Ids.{IsCe, IsRound, Txn}
 use Rattle.fc_documents.specs.Parts.{begun}
 use Rattle.fc_documents.specs.declared.transaction.PlanTxn.{PlanTxn}
 use Rattle.fc_element.specs.ElementMachine.{step, turn}
@@ -9,7 +9,6 @@ use Rattle.fc_element.specs.ElementState.{ElementState, restarted}
 use Rattle.fc_element.specs.declared.input.ElIn.{ElIn}
 use Rattle.fc_element.specs.declared.input.ElIn.TheVariants as el_in
 use Rattle.fc_exec.specs.declared.operations.Operation.{Operation}
-use Rattle.fc_folding.specs.Folding.{is_control}
 use Rattle.fc_jobs.specs.Plans.{changes_in, participants_of, scopes_in}
 use Rattle.fc_machine.specs.Trace.{Fact}
 use Rattle.fc_msg.specs.declared.message.Message.{Message}
@@ -23,7 +22,7 @@ use Rattle.fc_protocol.specs.ElementMachine.{Circumstance, hears, resumed}
 use Rattle.fc_protocol.specs.MasterMachine.{Master, Refusal, again, at_once, begins, finish, forgets, gives_up, heard, new_master, sends_one, next_txn}
 use Rattle.fc_protocol.specs.Messages as said
 use Rattle.fc_protocol.specs.Messages.{Body, Plain, Sent, Stamp, is_epoch, is_query, sent}
-use Rattle.fc_protocol.specs.WorldSteps.{World, controller_of, delivered, happens, is_round, may_start, murmurs, numbered, run, says, sender, spoken, to_master}
+use Rattle.fc_protocol.specs.WorldSteps.{World, controller_of, delivered, happens, is_round, may_start, murmurs, numbered, says, sender, spoken, to_master}
 use Rattle.fc_protocol.specs.WorldSteps as network
 use Rattle.fc_steps.specs.declared.step.Step.{Step}
 use Rattle.fc_steps.specs.declared.step.Step.TheVariants as step_of
@@ -31,9 +30,10 @@ use Rattle.fc_store.specs.Stores.{Pairwise}
 use Rattle.fc_wellformed.proofs.Said.{first_clear}
 use Rattle.fc_wellformed.specs.WellFormed.{HasChanges, IsChange, KeepsChanges}
 use Rattle.fc_world.specs.Lookups.{controller_in, element_in, has_controller, has_element, ids_of, is_running, life_of, lone_change, lone_of, lone_part, parcel_in, plain_in, ruling_in, transaction_in, with_controller, with_element}
+use Rattle.fc_world.specs.Settings.{IsNetwork, IsPlanned}
 use Rattle.fc_world.specs.Stages.{HasRound}
 use Rattle.fc_world.specs.Worlds.{Ruling, Standing, WorldState, downward, epoch_of, first_life, number_of}
-use Rattle.fc_world.specs.WorldSteps.{Called, Spoke, begins_by, begins_in, called_by, calls, changes_at, changes_by, delivers, fault_if, fault_of, forgets_in, gives_up_in, granted, resends_in, restarted_by, restarts, running_in, started, started_by, stopped, taken_by, takes, with_ruling, with_running, with_spoke, with_turn}
+use Rattle.fc_world.specs.WorldSteps.{Called, Spoke, begins_by, begins_in, called_by, calls, changes_at, changes_by, delivers, fault_if, fault_of, forgets_in, gives_up_in, granted, resends_in, restarted_by, restarts, running_in, started, started_by, stopped, taken_by, takes, with_running, with_spoke, with_turn}
 use Rattle.fc_world.specs.WorldSteps as world
 use Rattle.fc_world.specs.declared.faults.WorldFault.{WorldFault}
 use Rattle.fc_world.specs.declared.nodes.Node.{Node}
@@ -42,7 +42,7 @@ use Rattle.fc_world.specs.declared.sent.Parcel.TheVariants.{Upward, Downward}
 use Rattle.fc_world.specs.declared.setting.Setting.{Setting}
 use Rattle.fc_performing.specs.declared.out.Out.{Out}
 use Rattle.std.specs.Str.{bytes_eq}
-use Rattle.fc_following.specs.Following.{AsksSo, Follows, GoesOn, GoesDownAs, IsController, IsElement, IsLife, IsNetwork, IsPlanned, IsRequest, IsSent, IsUpward, RunsSo, core_in}
+use Rattle.fc_following.specs.Following.{AsksSo, Follows, GoesOn, GoesDownAs, IsController, IsElement, IsLife, IsRequest, IsSent, IsUpward, RunsSo, core_in}
 use Rattle.fc_following.specs.Networks.{ce_of}
 use Rattle.fc_following.proofs.Controllers.{ce_found, ces}
 use Rattle.fc_following.proofs.Elements.{Delivered, Turned, config_delivered, moment_turned, other_turned, query_delivered, still_turned, wish_turned}
@@ -50,6 +50,7 @@ use Rattle.fc_following.proofs.Happens.{controller_follows, element_follows, mas
 use Rattle.fc_following.proofs.Masters.{SpeaksAs, begins_as, changes_as, forgets_as, gives_up_as, hears_as, resends_as}
 use Rattle.fc_following.proofs.Nodes.{Found, found}
 use Rattle.fc_following.proofs.Pairs.{BothOrNone, pair_at}
+use Rattle.fc_protocol.proofs.Puts.{both_first, both_second}
 
 abbrev Facts : Type 0
 Facts = List (Fact Operation)
@@ -71,14 +72,6 @@ not_false : (b : Bool) → not b ≡ false → b ≡ true
 not_false true is = refl
 not_false false is = absurd cc
 
-both_left : (a b : Bool) → (a && b) ≡ true → a ≡ true
-both_left true b is = refl
-both_left false b is = absurd cc
-
-both_right : (a b : Bool) → (a && b) ≡ true → b ≡ true
-both_right true b is = is
-both_right false b is = absurd cc
-
 pub record There {A : Type 0} (o : Option A) : Type 0 where
   pub item : A
   pub is : o ≡ Some item
@@ -96,7 +89,7 @@ among_found f (n ∷ ns) e is = by (f == n.id) is (λ at. among_found f ns e at)
     by true at more = refl
     by false at more = more at
 
-control_found : (P : ℕ → Type 0) (c : ℕ) (ss : List Standing) (old : Standing) → AllByRecursion P (ces ss) → controller_in c ss ≡ Some old → P old.ce × (c ≡ number_of old.ce)
+pub control_found : (P : ℕ → Type 0) (c : ℕ) (ss : List Standing) (old : Standing) → AllByRecursion P (ces ss) → controller_in c ss ≡ Some old → P old.ce × (c ≡ number_of old.ce)
 control_found P c [] old all is = absurd cc
 control_found P c (s ∷ ss) old all is = by (c == number_of s.ce) refl is (λ e. control_found P c ss old all.1 e)
   where
@@ -104,7 +97,7 @@ control_found P c (s ∷ ss) old all is = by (c == number_of s.ce) refl is (λ e
     by true at e more = let same : s ≡ old = cc in subst (λ (o : Standing). P o.ce × (c ≡ number_of o.ce)) same (all.0, eqb-true c (number_of s.ce) at)
     by false at e more = more e
 
-planned_found : (P : PlanTxn → Type 0) (name : List ℕ) (ts : List PlanTxn) (t : PlanTxn) → AllByRecursion P ts → transaction_in name ts ≡ Some t → P t
+pub planned_found : (P : PlanTxn → Type 0) (name : List ℕ) (ts : List PlanTxn) (t : PlanTxn) → AllByRecursion P ts → transaction_in name ts ≡ Some t → P t
 planned_found P name [] t all is = absurd cc
 planned_found P name (x ∷ ts) t all is = by (bytes_eq name x.name) is (λ e. planned_found P name ts t all.1 e)
   where
@@ -144,30 +137,30 @@ module _ (s : Setting) (is : IsNetwork s) (w : WorldState) (fs : Facts) (a : Wor
   still_goes = none_goes w refl refl refl
 
   -- ---- what is there of the network too
-  elements_are : (f : ℕ) (e : ElementState) → element_in f w.nodes ≡ Some e → among f a.network.elements ≡ true
+  pub elements_are : (f : ℕ) (e : ElementState) → element_in f w.nodes ≡ Some e → among f a.network.elements ≡ true
   elements_are f e at = ap (λ (n : network.Network). among f n.elements) follows.network ∙ ap (among f) (sym follows.ids) ∙ among_found f w.nodes e at
 
   controller_is : (c : ℕ) → controller_of a.network.controllers c ≡ option_map (λ (o : Standing). o.ce) (controller_in c w.controllers)
   controller_is c = ap (λ (n : network.Network). controller_of n.controllers c) follows.network ∙ ap (λ ks. controller_of ks c) (sym follows.ces) ∙ ce_found c w.controllers
 
-  ce_is : (c : ℕ) (old : Standing) → controller_in c w.controllers ≡ Some old → ce_of s c ≡ old.ce
+  pub ce_is : (c : ℕ) (old : Standing) → controller_in c w.controllers ≡ Some old → ce_of s c ≡ old.ce
   ce_is c old at = ap (λ ks. unwrap_or (controller_of ks c) 0) (sym follows.ces) ∙ ap (λ o. unwrap_or o 0) (ce_found c w.controllers ∙ ap (λ o. option_map (λ (x : Standing). x.ce) o) at)
 
-  sender_is : (k : ℕ) → sender a k ≡ ce_of s k
+  pub sender_is : (k : ℕ) → sender a k ≡ ce_of s k
   sender_is k = ap (λ (n : network.Network). unwrap_or (controller_of n.controllers k) 0) follows.network
 
   -- ---- an element
   module _ (f : ℕ) (e : ElementState) (at : element_in f w.nodes ≡ Some e) where
-    it : Found (λ (n : Node). IsElement s fs (a.at n.id) n) f e
+    pub it : Found (λ (n : Node). IsElement s fs (a.at n.id) n) f e
     it = found (λ (n : Node). IsElement s fs (a.at n.id) n) f e w.nodes follows.elements at
 
     abbrev n : Node
     n = it.node
 
-    takes_is : (i : ElIn) → takes f i w ≡ with_turn f (step n.element i) w
+    pub takes_is : (i : ElIn) → takes f i w ≡ with_turn f (step n.element i) w
     takes_is i = ap (λ o. taken_by o f i w) at ∙ ap (λ x. with_turn f (step x i) w) (sym it.element)
 
-    facts_are : (i : ElIn) → world.facts_by (element_in f w.nodes) i ≡ (step n.element i).facts
+    pub facts_are : (i : ElIn) → world.facts_by (element_in f w.nodes) i ≡ (step n.element i).facts
     facts_are i = ap (λ o. world.facts_by o i) at ∙ ap (λ x. (step x i).facts) (sym it.element)
 
     -- its input is this step of the network, which says this beside what it is
@@ -247,10 +240,10 @@ module _ (s : Setting) (is : IsNetwork s) (w : WorldState) (fs : Facts) (a : Wor
     here : IsController (Some old) (a.masters c) (a.used c)
     here = subst (λ o. IsController o (a.masters c) (a.used c)) at (follows.controllers c)
 
-    master_is : a.masters c ≡ Some r.core
+    pub master_is : a.masters c ≡ Some r.core
     master_is = here.0 ∙ ap core_in runs
 
-    life : IsLife old.ce r
+    pub life : IsLife old.ce r
     life = subst (RunsSo old.ce) runs here.2
 
     -- it has spoken, and so has the master of the network
@@ -280,7 +273,7 @@ module _ (s : Setting) (is : IsNetwork s) (w : WorldState) (fs : Facts) (a : Wor
         }
 
   -- the life of the control element, where it runs
-  ruled : (c : ℕ) (r : Ruling) → ruling_in c w.controllers ≡ Some r → (old : Standing) × (controller_in c w.controllers ≡ Some old) × (old.running ≡ Some r)
+  pub ruled : (c : ℕ) (r : Ruling) → ruling_in c w.controllers ≡ Some r → (old : Standing) × (controller_in c w.controllers ≡ Some old) × (old.running ≡ Some r)
   ruled c r at = by (controller_in c w.controllers) refl at
     where
       by : (o : Option Standing) → controller_in c w.controllers ≡ o → life_of o ≡ Some r → (old : Standing) × (controller_in c w.controllers ≡ Some old) × (old.running ≡ Some r)
@@ -300,7 +293,7 @@ module _ (s : Setting) (is : IsNetwork s) (w : WorldState) (fs : Facts) (a : Wor
       by (Some r) at = called_goes place c (f r).spoke (f r).refusal (speaks r at)
 
   -- ---- a message to a control element
-  to_master_is : (k p : ℕ) (x : said.Message) (c : Circumstance) → IsUpward x → delivered a c p k x ≡ to_master a p k x (a.masters k)
+  pub to_master_is : (k p : ℕ) (x : said.Message) (c : Circumstance) → IsUpward x → delivered a c p k x ≡ to_master a p k x (a.masters k)
   to_master_is k p said.Setup c up = refl
   to_master_is k p said.Beat c up = refl
   to_master_is k p (said.Request st b) c up = absurd up
@@ -377,20 +370,16 @@ module _ (s : Setting) (is : IsNetwork s) (w : WorldState) (fs : Facts) (a : Wor
   same_epoch : (r k n : ℕ) → k ≡ n → 256 * r + k ≡ r * 256 + n
   same_epoch r k n same = omega (arith, same)
 
-  epoch_is : (r ce : ℕ) → IsRound r → is_control ce ≡ true → is_epoch (epoch_of r ce) ≡ true
+  epoch_is : (r ce : ℕ) → IsRound r → IsCe ce → is_epoch (epoch_of r ce) ≡ true
   epoch_is r ce fits control =
       let n = ce % 256 in
-      let above : (n == 0) ≡ false = not_true (n == 0) (both_right (ce / 2 ^ 30 == 1) (not (n == 0)) control) in
+      let above : (n == 0) ≡ false = by_zero n control.1 in
       let high : epoch_of r ce / 256 ≡ r = omega arith in
       let low : epoch_of r ce % 256 ≡ n = omega arith in
       let some : (r == 0) ≡ false = by_zero r fits.0 in
       let whole : nat_lt (epoch_of r ce) (2 ^ 32) ≡ true = below (epoch_of r ce) (2 ^ 32) (omega (arith, fits.1)) in
       ap₂ (λ (x y : Bool). not x && y) (ap (λ v. v == 0) high ∙ some) (ap₂ (λ (x y : Bool). not x && y) (ap (λ v. v == 0) low ∙ above) whole)
     where
-      not_true : (b : Bool) → not b ≡ true → b ≡ false
-      not_true true h = absurd cc
-      not_true false h = refl
-
       below : (m v : ℕ) → m < v → nat_lt m v ≡ true
       below m v h = grind arith
 
@@ -419,7 +408,7 @@ module _ (s : Setting) (is : IsNetwork s) (w : WorldState) (fs : Facts) (a : Wor
       let at = found.is in
       let was : IsController (Some old) (a.masters c) (a.used c) = subst (λ o. IsController o (a.masters c) (a.used c)) at (follows.controllers c) in
       let still : old.running ≡ None = still_none old.running (ap (λ o. is_some (life_of o)) (sym at) ∙ stands) in
-      let control = control_found (λ ce. is_control ce ≡ true) c w.controllers old (subst (λ ks. AllByRecursion (λ ce. is_control ce ≡ true) ks) (sym follows.ces) is.controls) at in
+      let control = control_found IsCe c w.controllers old (subst (AllByRecursion IsCe) (sym follows.ces) is.controls) at in
       let new = started (ids_of w.nodes) r old in
       let core : new_master (256 * r + c) a.network.elements ≡ new_master (epoch_of r old.ce) (ids_of w.nodes) =
       ap₂ new_master (same_epoch r c (number_of old.ce) control.1) (ap (λ (n : network.Network). n.elements) follows.network ∙ sym follows.ids) in
@@ -541,7 +530,7 @@ module _ (s : Setting) (is : IsNetwork s) (w : WorldState) (fs : Facts) (a : Wor
   pub step_goes : (place : ℕ) (x : Step) → fault_of s.transactions w x ≡ None → HasRound x → GoesOn s (world.happens s.transactions w (place, x)) (world.facts_at w x ++ fs) a
   step_goes place (step_of.Open f c) made round =
       let named = not_false _ (no_fault (not (has_element f w.nodes && has_controller c w.controllers)) _ None made) in
-      open_goes f c (both_left (has_element f w.nodes) (has_controller c w.controllers) named) (both_right (has_element f w.nodes) (has_controller c w.controllers) named)
+      open_goes f c (both_first (has_element f w.nodes) (has_controller c w.controllers) named) (both_second (has_element f w.nodes) (has_controller c w.controllers) named)
   step_goes place (step_of.Deliver i) made round = deliver_goes place i
   step_goes place (step_of.Moment f t) made round = moment_goes f t (not_false _ (no_fault (not (has_element f w.nodes)) _ None made))
   step_goes place (step_of.Start c r) made round =

@@ -1,7 +1,7 @@
 -- A network element as the network of the protocol sees it: each element is one of the protocol's, each life of a control element its master,
 -- and each message that was sent the protocol's at the same place. This profile's own.
 use Rattle.std.specs.Prelude.{◌≡◌, ℕ, Bool, true, false, ⊤, List, map, Option, Some, None}
-use Rattle.std.specs.List.{AllByRecursion, list_all}
+use Rattle.std.specs.List.{AllByRecursion}
 use Rattle.fc_abiding.specs.Abiding.{IsLike}
 use Rattle.fc_abiding.specs.Runs.{Came, life_of}
 use Rattle.fc_answering.specs.Answering.{AreSame}
@@ -10,56 +10,31 @@ use Rattle.fc_asks.specs.declared.life.Life.{Life}
 use Rattle.fc_base.specs.Ids.{Txn}
 use Rattle.fc_blocks.specs.Opening.{opened_store}
 use Rattle.fc_exec.specs.declared.operations.Operation.{Operation}
-use Rattle.fc_documents.specs.Parts.{begun}
-use Rattle.fc_documents.specs.declared.transaction.PlanTxn.{PlanTxn}
-use Rattle.fc_folding.specs.Folding.{OfControls, is_control}
+use Rattle.fc_folding.specs.Folding.{OfControls}
 use Rattle.fc_hearing.specs.Hearing.{AreHeardAs, IsAnswerable, IsHeardAs}
 use Rattle.fc_heeding.specs.Heeding.{AsksFor}
 use Rattle.fc_machine.specs.Trace.{Fact, added, bare_facts, completed}
 use Rattle.fc_msg.specs.declared.message.Message.{Message}
 use Rattle.fc_msg.specs.declared.message.MsgBody.TheVariants.{SetupResponse}
-use Rattle.fc_jobs.specs.Sending.{are_apart}
-use Rattle.fc_numbering.specs.Numbering.{IsInNumbers, AreInstances, IsWord, TellsNumbers}
-use Rattle.fc_plans.specs.Plans.{plan_fault}
-use Rattle.fc_plans.specs.declared.plan.Part.{Part}
+use Rattle.fc_numbering.specs.Numbering.{IsInNumbers, TellsNumbers}
 use Rattle.fc_protocol.specs.Collections.{among}
 use Rattle.fc_protocol.specs.ElementMachine.{ElementState}
 use Rattle.fc_protocol.specs.MasterMachine.{Master}
 use Rattle.fc_protocol.specs.Messages as said
-use Rattle.fc_protocol.specs.Messages.{Body, Ask, Ask_record, Sent, Stamp, is_query, stamp}
+use Rattle.fc_protocol.specs.Messages.{Body, Ask_record, Sent, Stamp, is_query, stamp}
 use Rattle.fc_protocol.specs.WorldSteps.{World, first_world, run}
 use Rattle.fc_protocol.specs.WorldSteps as network
 use Rattle.fc_querying.specs.Asking.{IsTxn}
 use Rattle.fc_store.specs.Stores.{Pairwise}
-use Rattle.fc_types.specs.Libraries.{is_own}
-use Rattle.fc_wellformed.specs.WellFormed.{SpeaksClearly, TxnHolds}
+use Rattle.fc_wellformed.specs.WellFormed.{SpeaksClearly}
 use Rattle.fc_world.specs.Lookups.{controller_in, ids_of}
-use Rattle.fc_world.specs.Stages.{node_id}
+use Rattle.fc_world.specs.Settings.{node_id}
 use Rattle.fc_world.specs.Worlds.{Ruling, Standing, WorldState}
 use Rattle.fc_world.specs.declared.nodes.Node.{Node}
 use Rattle.fc_world.specs.declared.sent.Parcel.{Parcel}
 use Rattle.fc_world.specs.declared.sent.Parcel.TheVariants.{Upward, Downward}
 use Rattle.fc_world.specs.declared.setting.Setting.{Setting}
 use Rattle.fc_following.specs.Networks.{ce_of, network_of}
-
--- ---- settings
--- the numbers of a part fit
-abbrev pub FitsWords : Part → Type 0
-FitsWords part = IsWord part.element × AreInstances part.scope
-
--- a transaction of a script: a plan that changes something by selects of the grammar, in numbers that fit
-pub record IsPlanned (t : PlanTxn) : Type 0 where
-  pub plan : plan_fault (begun t) ≡ None
-  pub holds : TxnHolds t
-  pub words : AllByRecursion FitsWords (begun t)
-
--- A setting of which a network can be made: the classes are none of those that each element has, no element is listed twice, each control
--- element has an ID of one, and each transaction is one of a script.
-pub record IsNetwork (s : Setting) : Type 0 where
-  pub own : list_all is_own s.library ≡ true
-  pub apart : are_apart (map node_id s.elements) ≡ true
-  pub controls : AllByRecursion (λ (ce : ℕ). is_control ce ≡ true) s.controllers
-  pub planned : AllByRecursion IsPlanned s.transactions
 
 -- ---- what has happened
 -- two lists of facts tell the same of one element

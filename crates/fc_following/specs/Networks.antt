@@ -1,7 +1,7 @@
 -- The network of the protocol that the setting of a world is. This profile's own.
 use Rattle.std.specs.Prelude.{ℕ, ◌==◌, List, [], ◌∷◌, map, unwrap_or, if◌then◌else◌}
 use Rattle.fc_protocol.specs.WorldSteps.{Network, controller_of}
-use Rattle.fc_world.specs.Stages.{node_id}
+use Rattle.fc_world.specs.Settings.{node_id}
 use Rattle.fc_world.specs.declared.setting.Setting.{Setting}
 
 -- the control element that is to configure an element, by the element's ID

@@ -1,12 +1,14 @@
 // The promise.
 ghost use Rattle.std.specs.Prelude.{◌≡◌, ℕ, List};
 ghost use Rattle.fc_agreement.specs.Agreement.{Agree, OnePlan, Ready, SettleOnce};
-ghost use Rattle.fc_following.specs.Following.{GoesOn, IsNetwork};
+ghost use Rattle.fc_following.specs.Following.{GoesOn};
 ghost use Rattle.fc_following.specs.Networks.{network_of};
-ghost use Rattle.fc_following.specs.Promise.{AllFolded, AreMade, Fenced, Settles};
+ghost use Rattle.fc_following.specs.Promise.{AllFolded, Fenced, Settles};
 ghost use Rattle.fc_machine.specs.Trace.{bare_facts};
 ghost use Rattle.fc_protocol.specs.WorldSteps as network;
 ghost use Rattle.fc_steps.specs.declared.step.Step.{Step as Steps};
+ghost use Rattle.fc_world.specs.Played.{AreMade};
+ghost use Rattle.fc_world.specs.Settings.{IsNetwork};
 ghost use Rattle.fc_world.specs.Worlds.{WorldState, first_world};
 ghost use Rattle.fc_world.specs.WorldSteps.{facts, run};
 ghost use Rattle.fc_world.specs.declared.setting.Setting.{Setting as Settings};

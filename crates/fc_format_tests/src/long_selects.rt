@@ -1,6 +1,6 @@
 // Selects of the greatest lengths.
 use crate::selects::read_select;
-use fc_base::{List, Memory, Octets, WriteFault};
+use fc_base::{List, Memory, Octets, Shared, WriteFault};
 use fc_path::{Body, Key, Oper, OperKind, PathData, Select, fits_results};
 use fc_wire::TlvWriter;
 use std::alloc::Global;
@@ -28,7 +28,7 @@ fn rising(alloc: Global, count: u32) -> Result<List<u32>, Memory> {
 fn on_path(alloc: Global, kind: OperKind, path: PathData) -> Result<Oper, Memory> {
     let mut paths = List::new(alloc);
     paths.push(path)?;
-    Ok(Oper::Paths(kind, paths))
+    Ok(Oper::Paths(kind, Shared::of(paths)?))
 }
 
 // The select of instance 1 of class 1 with these operations.

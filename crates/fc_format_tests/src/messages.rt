@@ -1,6 +1,6 @@
 // Messages whose bytes stand in the specification of the format.
 use crate::digits::{bytes_of, push_digits};
-use fc_base::{Duplicate, List, Memory, Octets, WriteFault};
+use fc_base::{Duplicate, List, Memory, Octets, Shared, WriteFault};
 use fc_msg::{Encoder, Message, MsgBody, decode, encode};
 use fc_path::{Body, Oper, OperKind, PathData, Select};
 use fc_wire::Flags;
@@ -205,7 +205,7 @@ fn setting(alloc: Global, path: PathData) -> Result<Select, Memory> {
     let mut paths = List::new(alloc);
     paths.push(path)?;
     let mut opers = List::new(alloc);
-    opers.push(Oper::Paths(OperKind::Set, paths))?;
+    opers.push(Oper::Paths(OperKind::Set, Shared::of(paths)?))?;
     Ok(Select {
         class: 1,
         instance: 1,

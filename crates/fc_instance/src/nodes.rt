@@ -8,7 +8,7 @@ ghost use Rattle.fc_value.specs.declared.value.Value.TheVariants as tables;
 use fc_base::{Duplicate, Memory};
 use fc_rows::Rows;
 use fc_types::Ty;
-use fc_value::{Value, write_full};
+use fc_value::{Value, write_full, write_full_entries};
 use std::alloc::Global;
 use std::marker::Model;
 
@@ -95,10 +95,7 @@ impl<'a> Node<'a> {
     {
         match &self.lent {
             Lent::One(value) => write_full(ty, value, into),
-            Lent::Entries(rows) => {
-                let value = Value::Table(rows.to_list(*into.allocator())?);
-                write_full(ty, &value, into)
-            }
+            Lent::Entries(rows) => write_full_entries(ty, rows.as_slice(), into),
         }
     }
 }

@@ -49,13 +49,40 @@ impl Tree {
     }
 }
 
+// How keys of a few bytes compare: as slices do, of which std's own comparison first looks for groups of bytes that are equal.
+fn cmp(one: &[u8], other: &[u8]) -> Ordering
+    ensures { result ≡ key_cmp one.now other.now }
+{
+    match one {
+        [] => order_of_none(other),
+        [first, rest @ ..] => match other {
+            [] => Ordering::Greater,
+            [second, others @ ..] => match first.cmp(second) {
+                Ordering::Less => Ordering::Less,
+                Ordering::Equal => cmp(rest, others),
+                Ordering::Greater => Ordering::Greater,
+            },
+        },
+    }
+}
+
+// How no byte compares with bytes.
+fn order_of_none(other: &[u8]) -> Ordering
+    ensures { result ≡ key_cmp [] other.now }
+{
+    match other {
+        [] => Ordering::Equal,
+        [_, ..] => Ordering::Less,
+    }
+}
+
 /// The subscript at a key; none exactly where the key is not there.
 pub(crate) fn find(tree: &Tree, key: &[u8]) -> Option<u32>
     ensures { IsTrue (is_sorted key_cmp (pairs_of tree.now)) → result ≡ find key_cmp key.now (pairs_of tree.now) }
 {
     match tree {
         Tree::Leaf => None,
-        Tree::Branch(fork) => match key.cmp(fork.key.as_slice()) {
+        Tree::Branch(fork) => match cmp(key, fork.key.as_slice()) {
             Ordering::Less => find(&fork.left, key),
             Ordering::Equal => Some(fork.subscript),
             Ordering::Greater => find(&fork.right, key),
@@ -192,7 +219,7 @@ pub(crate) fn entered(
             drop(mem::replace(&mut *blank, fresh));
             (Tree::Branch(blank), None)
         }
-        Tree::Branch(mut fork) => match key.as_slice().cmp(fork.key.as_slice()) {
+        Tree::Branch(mut fork) => match cmp(key.as_slice(), fork.key.as_slice()) {
             Ordering::Less => {
                 let side = mem::replace(&mut fork.left, Tree::Leaf);
                 let height = side.height();
@@ -252,7 +279,7 @@ pub(crate) fn removed(tree: Tree, key: &[u8]) -> (Tree, Option<(u32, Box<Fork>)>
 {
     match tree {
         Tree::Leaf => (Tree::Leaf, None),
-        Tree::Branch(mut fork) => match key.cmp(fork.key.as_slice()) {
+        Tree::Branch(mut fork) => match cmp(key, fork.key.as_slice()) {
             Ordering::Less => {
                 let side = mem::replace(&mut fork.left, Tree::Leaf);
                 let height = side.height();

@@ -5,8 +5,7 @@ use Rattle.fc_base.specs.Ids.{Txn}
 use Rattle.fc_protocol.specs.Collections.{among, put}
 use Rattle.fc_protocol.specs.Jobs.{Job as Work, decided_job, given_up}
 use Rattle.fc_protocol.specs.Messages.{Setup}
-use Rattle.fc_protocol.specs.MasterMachine.{Master as Core, Peer, again, at_put, decide_all, finish, gives_up, heard, sends_all}
-use Rattle.fc_jobs.specs.declared.answers.Heard.{Heard}
+use Rattle.fc_protocol.specs.MasterMachine.{Peer, again, at_put, decide_all, gives_up, heard}
 use Rattle.fc_jobs.specs.declared.job.Job.{Job}
 use Rattle.fc_jobs.specs.declared.seat.Seat.{Seat}
 use Rattle.fc_jobs.specs.declared.sending.CeOut.{CeOut}
@@ -14,7 +13,6 @@ use Rattle.fc_jobs.specs.JobViews.{jobs_of}
 use Rattle.fc_jobs.specs.Seats.{elements_of, peer_at, peer_of}
 use Rattle.fc_jobs.specs.Sending.{core_by, spelled}
 use Rattle.fc_jobs.proofs.Asking.{changed}
-use Rattle.fc_jobs.proofs.Finishing.{finished}
 use Rattle.fc_jobs.proofs.Seating.{elements_set, peer_found}
 use Rattle.fc_master.specs.Masters.{begun_of, core_of}
 use Rattle.fc_master.specs.Steps.{setup_response, greeting}
@@ -25,26 +23,19 @@ abbrev pub all_decided : ℕ → List Work → List Work
 all_decided e ks = map (λ (j : Work). decided_job e j.decision j) ks
 
 -- the master as it is, each job decided where it can be
-pub as_it_is : (m : Master) (ss : List Seat) (js : List Job) (d : Option ℕ) → ss ≡ m.seats → jobs_of js ≡ all_decided m.life.epoch (jobs_of m.jobs) → d ≡ m.deposed
+pub as_it_is : (m : Master) (ss : List Seat) (js : List Job) (d : Option ℕ) → ss ≡ m.seats → jobs_of js ≡ all_decided m.life.epoch (jobs_of m.jobs.all) → d ≡ m.deposed
     → core_by m.life.epoch ss js (begun_of m) d ≡ decide_all (core_of m)
 as_it_is m ss js d a b x =
     ap (λ (ts : List Seat). core_by m.life.epoch ts js (begun_of m) d) a
     ∙ ap (λ (ks : List Work). record { epoch = m.life.epoch; elements = elements_of m.seats; at = peer_at m.life.epoch m.wanted m.seats; jobs = ks; begun = m.begun; deposed = d }) b
-    ∙ ap (λ (o : Option ℕ). record { epoch = m.life.epoch; elements = elements_of m.seats; at = peer_at m.life.epoch m.wanted m.seats; jobs = all_decided m.life.epoch (jobs_of m.jobs); begun = m.begun; deposed = o }) x
+    ∙ ap (λ (o : Option ℕ). record { epoch = m.life.epoch; elements = elements_of m.seats; at = peer_at m.life.epoch m.wanted m.seats; jobs = all_decided m.life.epoch (jobs_of m.jobs.all); begun = m.begun; deposed = o }) x
 
 -- the job of a transaction is given up
-pub given_up_is : (m : Master) (ss : List Seat) (js : List Job) (x : Txn) → ss ≡ m.seats → jobs_of js ≡ all_decided m.life.epoch (map (given_up x) (jobs_of m.jobs))
+pub given_up_is : (m : Master) (ss : List Seat) (js : List Job) (x : Txn) → ss ≡ m.seats → jobs_of js ≡ all_decided m.life.epoch (map (given_up x) (jobs_of m.jobs.all))
     → core_by m.life.epoch ss js (begun_of m) m.deposed ≡ decide_all (gives_up (core_of m) x)
 given_up_is m ss js x a b =
     ap (λ (ts : List Seat). core_by m.life.epoch ts js (begun_of m) m.deposed) a
     ∙ ap (λ (ks : List Work). record { epoch = m.life.epoch; elements = elements_of m.seats; at = peer_at m.life.epoch m.wanted m.seats; jobs = ks; begun = m.begun; deposed = m.deposed }) b
-
--- what is sent is what finishes the input
-pub sent_by : (m : Master) (h : Heard) (js : List Job) (x : Core) (k : ℕ) → js ≡ h.jobs → core_by m.life.epoch h.seats h.jobs (begun_of m) h.deposed ≡ decide_all x
-    → sends_all k (elements_of h.seats) (core_by m.life.epoch h.seats js (begun_of m) h.deposed) ≡ finish k x
-sent_by m h js x k f e =
-    ap (λ (ks : List Job). sends_all k (elements_of h.seats) (core_by m.life.epoch h.seats ks (begun_of m) h.deposed)) f
-    ∙ finished k (core_by m.life.epoch h.seats h.jobs (begun_of m) h.deposed) x e
 
 -- an element of the master wishes to be associated
 module _ (m : Master) (i : ℕ) (s n : Seat) (p : ℕ) (l : i < length m.seats) (g : s ≡ get_or m.seats i s) (q : s.element ≡ p) (t : among p (elements_of m.seats) ≡ true) where
@@ -55,10 +46,10 @@ module _ (m : Master) (i : ℕ) (s n : Seat) (p : ℕ) (l : i < length m.seats) 
   elements_after hs ss h a r = ap elements_of (r ∙ ap (λ (xs : List Seat). set xs i n) a) ∙ elements_set m.seats i s n l g h
 
   pub setup_is : (hs ss : List Seat) (js : List Job) (d : Option ℕ) → n.element ≡ s.element → ((e : ℕ) → peer_of e n ≡ record (peer_of e s) { met = true }) → ss ≡ m.seats → hs ≡ set ss i n
-      → jobs_of js ≡ all_decided m.life.epoch (jobs_of m.jobs) → d ≡ m.deposed → core_by m.life.epoch hs js (begun_of m) d ≡ decide_all (heard (core_of m) p Setup)
+      → jobs_of js ≡ all_decided m.life.epoch (jobs_of m.jobs.all) → d ≡ m.deposed → core_by m.life.epoch hs js (begun_of m) d ≡ decide_all (heard (core_of m) p Setup)
   setup_is hs ss js d h u a r b x =
-      changed m.life.epoch m.seats m.jobs js (begun_of m) d p i s n hs l g m.apart q h (r ∙ ap (λ (xs : List Seat). set xs i n) a) (λ y. record y { met = true }) (jobs_of m.jobs) (u m.life.epoch) b
-      ∙ ap (λ (o : Option ℕ). decide_all (record { epoch = m.life.epoch; elements = elements_of m.seats; at = put (peer_at m.life.epoch m.wanted m.seats) p (record (peer_at m.life.epoch m.wanted m.seats p) { met = true }); jobs = jobs_of m.jobs; begun = m.begun; deposed = o })) x
+      changed m.life.epoch m.seats m.jobs.all js (begun_of m) d p i s n hs l g m.apart q h (r ∙ ap (λ (xs : List Seat). set xs i n) a) (λ y. record y { met = true }) (jobs_of m.jobs.all) (u m.life.epoch) b
+      ∙ ap (λ (o : Option ℕ). decide_all (record { epoch = m.life.epoch; elements = elements_of m.seats; at = put (peer_at m.life.epoch m.wanted m.seats) p (record (peer_at m.life.epoch m.wanted m.seats p) { met = true }); jobs = jobs_of m.jobs.all; begun = m.begun; deposed = o })) x
       ∙ sym (ap (λ b. decide_all (cond b (at_put (core_of m) p (record ((core_of m).at p) { met = true })) (core_of m))) t)
 
   pub greeting_is : (corr : ℕ) (first : List CeOut) → first ≡ setup_response m.life s.element corr 0 ∷ spelled m.life (again 0 s.element (peer_of m.life.epoch s).waits) → first ≡ greeting m.life (core_of m) p corr

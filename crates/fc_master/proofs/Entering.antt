@@ -7,7 +7,7 @@ use Rattle.fc_msg.specs.declared.message.Message.{Message as Wire}
 use Rattle.fc_protocol.specs.Collections.{put}
 use Rattle.fc_protocol.specs.Jobs.{Job as Work, new_job}
 use Rattle.fc_protocol.specs.Messages.{Plain, correlator}
-use Rattle.fc_protocol.specs.MasterMachine.{Master as Core, Peer, Spent, TooMany, any_spent, at_put, begin_refusal, begins, deposed_by, first_refusal, last_count, refused_if, decide_all, finish, next_txn, part_refusal, plain_refusal, sending, sends_all, sends_one}
+use Rattle.fc_protocol.specs.MasterMachine.{Master as Core, Peer, Spent, TooMany, any_spent, at_put, begin_refusal, begins, deposed_by, first_refusal, last_count, refused_if, decide_all, next_txn, part_refusal, plain_refusal, sending, sends_one}
 use Rattle.fc_protocol.specs.Scopes.{Scope}
 use Rattle.fc_plans.specs.declared.plan.Part.{Part}
 use Rattle.fc_asks.specs.Plans.{selects_of}
@@ -21,7 +21,6 @@ use Rattle.fc_jobs.specs.Plans.{changes_in, counted, participants_of, scoped, sc
 use Rattle.fc_jobs.specs.Scopes.{scope_of}
 use Rattle.fc_jobs.specs.Seats.{elements_of, peer_at, peer_of}
 use Rattle.fc_jobs.specs.Sending.{core_by, out, spelled}
-use Rattle.fc_jobs.proofs.Finishing.{finished}
 use Rattle.fc_jobs.proofs.Laws.{found_placed}
 use Rattle.fc_jobs.proofs.Seating.{core_set, peer_found}
 use Rattle.fc_master.proofs.Changing.{all_decided}
@@ -47,21 +46,14 @@ begins_early m ps changes scopes e = numbered (deposed_by m.deposed) (refused_if
 
 -- the master with a job more
 module _ (me : Master) (x : Txn) (ps : List ℕ) (changes : ℕ → ℕ) (scopes : ℕ → Scope) (n : x ≡ next_txn (core_of me)) where
-  begun_core : (ss : List Seat) (js : List Job) (w : Work) → ss ≡ me.seats → jobs_of js ≡ all_decided me.life.epoch (jobs_of me.jobs ++ w ∷ []) → w ≡ new_job x ps changes scopes
+  pub begun_core : (ss : List Seat) (js : List Job) (w : Work) → ss ≡ me.seats → jobs_of js ≡ all_decided me.life.epoch (jobs_of me.jobs.all ++ w ∷ []) → w ≡ new_job x ps changes scopes
       → core_by me.life.epoch ss js (record { count = me.begun + 1; wanted = me.wanted }) me.deposed ≡ decide_all (begins (core_of me) ps changes scopes)
   begun_core ss js w a b f =
       let e = me.life.epoch in
       ap (λ (ts : List Seat). core_by e ts js (record { count = me.begun + 1; wanted = me.wanted }) me.deposed) a
       ∙ ap (λ (ks : List Work). record { epoch = e; elements = elements_of me.seats; at = peer_at e me.wanted me.seats; jobs = ks; begun = me.begun + 1; deposed = me.deposed })
-      (b ∙ ap (λ (v : Work). all_decided e (jobs_of me.jobs ++ v ∷ [])) f)
-      ∙ ap (λ (y : Txn). decide_all (record { epoch = e; elements = elements_of me.seats; at = peer_at e me.wanted me.seats; jobs = jobs_of me.jobs ++ new_job y ps changes scopes ∷ []; begun = me.begun + 1; deposed = me.deposed })) n
-
-  -- what is sent then
-  pub begun_is : (k : ℕ) (ss : List Seat) (js ks : List Job) (w : Work) → ks ≡ js → ss ≡ me.seats → jobs_of js ≡ all_decided me.life.epoch (jobs_of me.jobs ++ w ∷ []) → w ≡ new_job x ps changes scopes
-      → sends_all k (elements_of ss) (core_by me.life.epoch ss ks (record { count = me.begun + 1; wanted = me.wanted }) me.deposed) ≡ finish k (begins (core_of me) ps changes scopes)
-  begun_is k ss js ks w h a b f =
-      ap (λ (ls : List Job). sends_all k (elements_of ss) (core_by me.life.epoch ss ls (record { count = me.begun + 1; wanted = me.wanted }) me.deposed)) h
-      ∙ finished k (core_by me.life.epoch ss js (record { count = me.begun + 1; wanted = me.wanted }) me.deposed) (begins (core_of me) ps changes scopes) (begun_core ss js w a b f)
+      (b ∙ ap (λ (v : Work). all_decided e (jobs_of me.jobs.all ++ v ∷ [])) f)
+      ∙ ap (λ (y : Txn). decide_all (record { epoch = e; elements = elements_of me.seats; at = peer_at e me.wanted me.seats; jobs = jobs_of me.jobs.all ++ new_job y ps changes scopes ∷ []; begun = me.begun + 1; deposed = me.deposed })) n
 
 -- what is found where it was placed
 found_again : (p : ℕ) (c : List Select) (es : List (ℕ × List Select)) → found p (placed p c es) ≡ Some c
@@ -85,10 +77,10 @@ module _ (me : Master) (i : ℕ) (s : Seat) (p : ℕ) (l : i < length me.seats) 
 
   pub plain_is : (k c : ℕ) (n : Seat) (hs : List Seat) → hs ≡ set me.seats i n → c ≡ s.last + 1 → n.element ≡ s.element
       → peer_of me.life.epoch n ≡ sending (peer_of me.life.epoch s) (record { stamp = record { life = me.life.epoch; count = c }; body = Plain })
-      → core_by me.life.epoch hs me.jobs (begun_of me) me.deposed ≡ (sends_one k (core_of me) p (Some Plain)).master
+      → core_by me.life.epoch hs me.jobs.all (begun_of me) me.deposed ≡ (sends_one k (core_of me) p (Some Plain)).master
   plain_is k c n hs r u h v =
-      ap (λ (ts : List Seat). core_by me.life.epoch ts me.jobs (begun_of me) me.deposed) r
-      ∙ core_set me.life.epoch me.seats me.jobs (begun_of me) me.deposed i s n (plainly (peer_of me.life.epoch s)) l g me.apart h
+      ap (λ (ts : List Seat). core_by me.life.epoch ts me.jobs.all (begun_of me) me.deposed) r
+      ∙ core_set me.life.epoch me.seats me.jobs.all (begun_of me) me.deposed i s n (plainly (peer_of me.life.epoch s)) l g me.apart h
       (v ∙ ap (λ z. sending (peer_of me.life.epoch s) (record { stamp = record { life = me.life.epoch; count = z }; body = Plain })) u)
       ∙ ap (λ (y : Peer). at_put (core_of me) s.element (plainly y)) (sym (peer_found me.life.epoch me.wanted me.seats i s l g me.apart))
       ∙ ap (λ r. at_put (core_of me) r (plainly ((core_of me).at r))) q

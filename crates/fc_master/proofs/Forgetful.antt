@@ -5,13 +5,12 @@ use Rattle.std.specs.List.{list_any}
 use Rattle.fc_base.specs.Ids.{Txn}
 use Rattle.fc_protocol.specs.Collections.{or_next}
 use Rattle.fc_protocol.specs.Jobs.{Job as Work}
-use Rattle.fc_protocol.specs.MasterMachine.{Master as Core, Peer, NotReady, Busy, any_last, decide_all, engaged, finish, forgets, is_engaged, last_count, next_txn, refused_if, sends_all, unready}
+use Rattle.fc_protocol.specs.MasterMachine.{Master as Core, Peer, NotReady, Busy, any_last, decide_all, engaged, forgets, is_engaged, last_count, next_txn, refused_if, unready}
 use Rattle.fc_jobs.specs.declared.job.Job.{Job}
 use Rattle.fc_jobs.specs.declared.seat.Seat.{Seat}
 use Rattle.fc_jobs.specs.JobViews.{jobs_of}
 use Rattle.fc_jobs.specs.Seats.{elements_of, peer_at, peer_of}
 use Rattle.fc_jobs.specs.Sending.{core_by}
-use Rattle.fc_jobs.proofs.Finishing.{finished}
 use Rattle.fc_jobs.proofs.Seating.{peer_found}
 use Rattle.fc_master.proofs.Changing.{all_decided}
 use Rattle.fc_master.specs.Masters.{core_of}
@@ -68,7 +67,7 @@ same_elements_owe o [] = refl
 same_elements_owe o (s ∷ ss) = ap (λ ps. s.element ∷ ps) (same_elements_owe o ss)
 
 -- the master that wants every element to forget
-pub forgets_is : (me : Master) (x : Txn) (ss : List Seat) (js : List Job) → x ≡ next_txn (core_of me) → ss ≡ map (seat_owing (Some x)) me.seats → jobs_of js ≡ all_decided me.life.epoch (jobs_of me.jobs)
+pub forgets_is : (me : Master) (x : Txn) (ss : List Seat) (js : List Job) → x ≡ next_txn (core_of me) → ss ≡ map (seat_owing (Some x)) me.seats → jobs_of js ≡ all_decided me.life.epoch (jobs_of me.jobs.all)
     → core_by me.life.epoch ss js (record { count = me.begun; wanted = Some x }) me.deposed ≡ decide_all (forgets (core_of me))
 forgets_is me x ss js n a b =
     let e = me.life.epoch in
@@ -76,12 +75,4 @@ forgets_is me x ss js n a b =
     ∙ ap (λ (es : List ℕ). record { epoch = e; elements = es; at = peer_at e (Some x) (map (seat_owing (Some x)) me.seats); jobs = jobs_of js; begun = me.begun; deposed = me.deposed }) (same_elements_owe (Some x) me.seats)
     ∙ ap (λ (f : ℕ → Peer). record { epoch = e; elements = elements_of me.seats; at = f; jobs = jobs_of js; begun = me.begun; deposed = me.deposed }) (fun_ext (owing_at e me.wanted (Some x) me.seats))
     ∙ ap (λ (ks : List Work). record { epoch = e; elements = elements_of me.seats; at = λ p. owes_at (Some x) (peer_at e me.wanted me.seats p); jobs = ks; begun = me.begun; deposed = me.deposed }) b
-    ∙ ap (λ (y : Txn). decide_all (record { epoch = e; elements = elements_of me.seats; at = λ p. owes_at (Some y) (peer_at e me.wanted me.seats p); jobs = jobs_of me.jobs; begun = me.begun; deposed = me.deposed })) n
-
--- what is sent then
-pub all_forget : (me : Master) (k : ℕ) (ss : List Seat) (js ks : List Job) → ks ≡ js → ss ≡ map (seat_owing (Some (next_txn (core_of me)))) me.seats → jobs_of js ≡ all_decided me.life.epoch (jobs_of me.jobs)
-    → sends_all k (elements_of ss) (core_by me.life.epoch ss ks (record { count = me.begun; wanted = Some (next_txn (core_of me)) }) me.deposed) ≡ finish k (forgets (core_of me))
-all_forget me k ss js ks h a b =
-    let x = next_txn (core_of me) in
-    ap (λ (ls : List Job). sends_all k (elements_of ss) (core_by me.life.epoch ss ls (record { count = me.begun; wanted = Some x }) me.deposed)) h
-    ∙ finished k (core_by me.life.epoch ss js (record { count = me.begun; wanted = Some x }) me.deposed) (forgets (core_of me)) (forgets_is me x ss js refl a b)
+    ∙ ap (λ (y : Txn). decide_all (record { epoch = e; elements = elements_of me.seats; at = λ p. owes_at (Some y) (peer_at e me.wanted me.seats p); jobs = jobs_of me.jobs.all; begun = me.begun; deposed = me.deposed })) n

@@ -1,4 +1,5 @@
 pub mod Unknown
+pub mod Rested
 pub mod Changing
 pub mod Refusing
 pub mod Forgetful

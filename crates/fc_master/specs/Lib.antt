@@ -1,3 +1,4 @@
+pub mod Resting
 pub mod Masters
 pub mod Refusals
 pub mod Reports

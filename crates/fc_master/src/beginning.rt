@@ -1,5 +1,5 @@
 // A transaction begins.
-ghost use Rattle.std.specs.Prelude.{◌≡◌, ◌<◌, ◌-◌, ◌^◌, ◌++◌, ◌∷◌, [], ℕ, Some, None, IfOk, IfErr, IfSome, OnOk, OnErr, map};
+ghost use Rattle.std.specs.Prelude.{◌≡◌, ◌<◌, ◌-◌, ◌^◌, ◌++◌, ◌∷◌, [], ℕ, Some, None, IfOk, IfErr, IfSome, OnOk, OnErr, length, map, take};
 ghost use Rattle.fc_protocol.specs.Jobs.{Job as Work, decided_job, new_job};
 ghost use Rattle.fc_protocol.specs.MasterMachine.{begin_refusal, begins, finish, next_txn};
 ghost use Rattle.fc_jobs.specs.JobViews.{job_of, jobs_of};
@@ -14,6 +14,7 @@ use fc_asks::TxnPlan;
 use fc_base::{Duplicate, Epoch, List, Memory, TxnId};
 use fc_jobs::{CeOut, Job, Seat, decided, send_due};
 use std::alloc::Global;
+use std::mem;
 
 // The jobs and one more, each decided where it can be.
 fn with_job(alloc: Global, epoch: Epoch, jobs: &[Job], job: Job) -> Result<List<Job>, Memory>
@@ -24,6 +25,16 @@ fn with_job(alloc: Global, epoch: Epoch, jobs: &[Job], job: Job) -> Result<List<
     last.decide(alloc, epoch)?;
     others.push(last)?;
     Ok(others)
+}
+
+// The plans without the last one.
+fn drop_last(plans: &mut List<TxnPlan>)
+    ensures { plans.new ≡ take (length plans.old - 1) plans.old }
+{
+    let empty = List::new(plans.alloc());
+    let mut all = mem::replace(plans, empty).into_vec();
+    all.truncate(all.len().saturating_sub(1));
+    *plans = List::from_vec(all);
 }
 
 impl Master {
@@ -58,13 +69,21 @@ impl Master {
         if let Some(fault) = self.begin_fault(&job) {
             return Err(fault);
         }
-        let jobs = with_job(self.life.alloc, self.life.epoch, self.jobs.as_slice(), job)?;
+        let from = self.jobs.rested;
+        let jobs = with_job(self.life.alloc, self.life.epoch, self.jobs.open(), job)?;
         let mut seats = self.seats.copy()?;
         let outs = send_due(&self.life, &mut seats, jobs.as_slice(), self.deposed)?;
         self.life.plans.push(plan)?;
-        self.seats = seats;
-        self.jobs = jobs;
-        self.begun += 1;
-        Ok((txn, outs))
+        match self.jobs.replace(from, jobs) {
+            Err(_) => {
+                drop_last(&mut self.life.plans);
+                Err(BeginFault::Memory)
+            }
+            Ok(()) => {
+                self.seats = seats;
+                self.begun += 1;
+                Ok((txn, outs))
+            }
+        }
     }
 }

@@ -69,14 +69,15 @@ impl Master {
         if let Some(fault) = self.give_up_fault(txn) {
             return Err(fault);
         }
-        let jobs = given_up_all(self.life.alloc, self.life.epoch, self.jobs.as_slice(), txn)?;
+        let from = self.jobs.rested;
+        let jobs = given_up_all(self.life.alloc, self.life.epoch, self.jobs.open(), txn)?;
         let seats = self.seats.copy()?;
         let heard = Heard {
             seats,
             jobs,
             deposed: self.deposed,
         };
-        let outs = self.finish(heard, List::new(self.life.alloc))?;
+        let outs = self.finish(heard, from, List::new(self.life.alloc))?;
         Ok(outs)
     }
 }

@@ -105,7 +105,7 @@ impl Master {
         if let Some(fault) = engaged_fault(self.seats.as_slice()) {
             return Some(fault);
         }
-        if let Some(fault) = unsettled_fault(self.jobs.as_slice()) {
+        if let Some(fault) = unsettled_fault(self.jobs.open()) {
             return Some(fault);
         }
         if is_any_last(self.seats.as_slice()) {
@@ -135,10 +135,11 @@ impl Master {
             number: self.begun + 1,
         };
         let mut seats = owing_all(self.life.alloc, self.seats.as_slice(), floor)?;
-        let jobs = decided(self.life.alloc, self.life.epoch, self.jobs.as_slice())?;
+        let from = self.jobs.rested;
+        let jobs = decided(self.life.alloc, self.life.epoch, self.jobs.open())?;
         let outs = send_due(&self.life, &mut seats, jobs.as_slice(), self.deposed)?;
+        self.jobs.replace(from, jobs)?;
         self.seats = seats;
-        self.jobs = jobs;
         self.wanted = Some(floor);
         Ok(outs)
     }

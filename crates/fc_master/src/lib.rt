@@ -15,6 +15,7 @@ mod plain;
 mod refusals;
 mod reporting;
 mod resending;
+mod resting;
 mod seats;
 mod spending;
 mod stepping;

@@ -3,9 +3,10 @@ ghost use Rattle.std.specs.Prelude.{◌≡◌, true};
 ghost use Rattle.fc_jobs.specs.Seats.{elements_of};
 ghost use Rattle.fc_jobs.specs.Sending.{are_apart};
 
+use crate::resting::Jobs;
 use fc_asks::Life;
 use fc_base::{List, TxnId};
-use fc_jobs::{Job, Seat};
+use fc_jobs::Seat;
 
 /// One life of a control element: its elements, and what it drives at them. This profile's own.
 #[derive(Debug, Drop)]
@@ -13,8 +14,7 @@ pub struct Master {
     pub(crate) life: Life,
     // What it keeps of each element, in their order.
     pub(crate) seats: List<Seat>,
-    // In order of their begin or discovery.
-    pub(crate) jobs: List<Job>,
+    pub(crate) jobs: Jobs,
     // How many transactions it has begun.
     pub(crate) begun: u32,
     // The floor that it wants at every element, once it wants one.

@@ -6,6 +6,7 @@ ghost use Rattle.fc_jobs.specs.Sending.{are_apart};
 ghost use Rattle.fc_master.specs.Masters.{core_of};
 
 use crate::master::Master;
+use crate::resting::Jobs;
 use fc_asks::Life;
 use fc_base::{CeId, Epoch, FeId, List, Memory};
 use fc_jobs::{Job, Seat};
@@ -43,7 +44,7 @@ impl Master {
         Ok(Master {
             life,
             seats,
-            jobs: List::new(alloc),
+            jobs: Jobs::new(alloc, epoch),
             begun: 0,
             wanted: None,
             deposed: None,
@@ -52,7 +53,7 @@ impl Master {
 
     /// The transactions that it drives, in the order in which it began or found them.
     pub fn jobs(&self) -> &[Job]
-        ensures { result.now ≡ self.now.jobs }
+        ensures { result.now ≡ self.now.jobs.all }
     {
         self.jobs.as_slice()
     }

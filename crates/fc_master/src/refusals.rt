@@ -12,7 +12,7 @@ use crate::busy::{busy_at, is_engaged};
 use crate::faults::BeginFault;
 use crate::master::Master;
 use crate::seats::seat_of;
-use crate::spending::{is_passed, last_at};
+use crate::spending::last_at;
 use fc_base::{FeId, TxnId};
 use fc_jobs::{Job, LAST, Seat, is_same};
 
@@ -78,7 +78,7 @@ impl Master {
     {
         match seat_of(element, self.seats.as_slice()) {
             None => Some(BeginFault::Stranger { element }),
-            Some(seat) => seat_fault(seat, scope, self.jobs.as_slice()),
+            Some(seat) => seat_fault(seat, scope, self.jobs.open()),
         }
     }
 
@@ -103,7 +103,7 @@ impl Master {
         for element in job.participants.as_slice() {
             let last = u64::from(last_at(*element, self.seats.as_slice()));
             let next = last + u64::from(job.changes_at(*element)) + 3;
-            if is_passed(next, *element, self.jobs.as_slice()) {
+            if self.jobs.is_passed(next, *element) {
                 return true;
             }
         }

@@ -1,14 +1,15 @@
 // What a master does with what comes.
-ghost use Rattle.std.specs.Prelude.{◌≡◌, ◌∷◌, ◌++◌, ℕ, map, IfOk, OnOk, OnErr};
+ghost use Rattle.std.specs.Prelude.{◌≡◌, ◌≤◌, ◌∷◌, ◌++◌, ℕ, Some, map, take, drop, IfOk, OnOk, OnErr};
 ghost use Rattle.fc_protocol.specs.Jobs.{Job as Work, decided_job};
 ghost use Rattle.fc_protocol.specs.Messages.{stamp, Reply, Setup};
-ghost use Rattle.fc_protocol.specs.MasterMachine.{again, finish, heard};
+ghost use Rattle.fc_protocol.specs.MasterMachine.{Waiting, again, finish, heard};
 ghost use Rattle.fc_asks.specs.Codes.{response_code};
 ghost use Rattle.fc_jobs.specs.Answers.{answered};
 ghost use Rattle.fc_jobs.specs.JobViews.{jobs_of};
 ghost use Rattle.fc_jobs.specs.Seats.{peer_of};
 ghost use Rattle.fc_jobs.specs.Sending.{spelled};
 ghost use Rattle.fc_master.specs.Masters.{begun_of, core_of};
+ghost use Rattle.fc_master.specs.Resting.{LeavesAlone};
 ghost use Rattle.fc_master.specs.Steps as spec;
 ghost use Rattle.fc_master.specs.Steps.{said, stepped};
 
@@ -16,6 +17,7 @@ use crate::finishing::joined;
 use crate::input::CeIn;
 use crate::master::Master;
 use crate::resending::waiting_again;
+use crate::seats::seat_of;
 use fc_asks::{Life, read_code};
 use fc_base::{Duplicate, FeId, List, Memory};
 use fc_jobs::{CeOut, Heard, Seat, after_answer, after_reply, decided, place_of};
@@ -82,14 +84,14 @@ fn setup_answer(life: &Life, seat: &Seat, corr: u64) -> Result<List<CeOut>, Memo
 }
 
 impl Master {
-    // The elements, the jobs and the master as they are, each job decided where it can be.
+    // The elements, the jobs behind those that rest and the master as they are, each job decided where it can be.
     fn unchanged(&self) -> Result<Heard, Memory>
         ensures seats { IfOk result (λ h. h.seats ≡ self.now.seats) }
-        ensures jobs { IfOk result (λ h. jobs_of h.jobs ≡ map (λ (j : Work). decided_job self.now.life.epoch j.decision j) (jobs_of self.now.jobs)) }
+        ensures jobs { IfOk result (λ h. jobs_of h.jobs ≡ map (λ (j : Work). decided_job self.now.life.epoch j.decision j) (jobs_of (drop self.now.jobs.rested self.now.jobs.all))) }
         ensures deposed { IfOk result (λ h. h.deposed ≡ self.now.deposed) }
     {
         let seats = self.seats.copy()?;
-        let jobs = decided(self.life.alloc, self.life.epoch, self.jobs.as_slice())?;
+        let jobs = decided(self.life.alloc, self.life.epoch, self.jobs.open())?;
         Ok(Heard {
             seats,
             jobs,
@@ -106,7 +108,7 @@ impl Master {
         ensures err { OnErr result (self.new ≡ self.old) }
     {
         let heard = self.unchanged()?;
-        self.finish(heard, first)
+        self.finish(heard, self.jobs.rested, first)
     }
 
     // An element wishes to be associated.
@@ -122,14 +124,25 @@ impl Master {
             None => {
                 let mut first = List::new(self.life.alloc);
                 first.push(setup_response(&self.life, element, corr, 1))?;
-                self.finish(heard, first)
+                self.finish(heard, self.jobs.rested, first)
             }
             Some(at) => {
                 let seat = &self.seats.as_slice()[at];
                 let first = setup_answer(&self.life, seat, corr)?;
                 heard.seats.set(at, seat.after_setup()?);
-                self.finish(heard, first)
+                self.finish(heard, self.jobs.rested, first)
             }
+        }
+    }
+
+    // From which job on a response of the element may change anything: from the first on, where it may change jobs that rest.
+    fn from_at(&self, element: FeId) -> usize
+        ensures few { result ≤ self.now.jobs.rested }
+        ensures leaves { (o : Waiting) → ((core_of self.now).at element).waits ≡ Some o → LeavesAlone (jobs_of (take result self.now.jobs.all)) o.body }
+    {
+        match seat_of(element, self.seats.as_slice()) {
+            None => self.jobs.rested,
+            Some(seat) => self.jobs.from_by(&seat.waits),
         }
     }
 
@@ -147,14 +160,15 @@ impl Master {
         ensures err { OnErr result (self.new ≡ self.old) }
     {
         let code = read_code(self.life.alloc, selects)?;
-        let jobs = self.jobs.as_slice();
+        let from = self.from_at(element);
+        let jobs = self.jobs.behind(from);
         let next = after_reply(&self.life, &self.seats, jobs, element, corr, code)?;
         let heard = Heard {
             seats: next.seats,
             jobs: next.jobs,
             deposed: self.deposed,
         };
-        self.finish(heard, List::new(self.life.alloc))
+        self.finish(heard, from, List::new(self.life.alloc))
     }
 
     // An answer to a Query came from an element.
@@ -179,7 +193,7 @@ impl Master {
             corr,
             selects,
         )?;
-        self.finish(heard, List::new(self.life.alloc))
+        self.finish(heard, 0, List::new(self.life.alloc))
     }
 
     /// What an input makes of the master, and what it then sends, in this order: the response to a wish for an association, and then what

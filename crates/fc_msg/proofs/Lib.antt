@@ -4,6 +4,7 @@ pub mod BodyRising
 pub mod Canonical
 pub mod FaultPlaces
 pub mod Holding
+pub mod Measured
 pub mod Numbers
 pub mod Reading
 pub mod Selects

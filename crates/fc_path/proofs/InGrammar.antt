@@ -48,7 +48,7 @@ nothing_is = search (rules, the_lemmas)
 pub full_is : (value : List ℕ) → body_written (v.Full value) ≡ wrapped 274 (plain value)
 full_is value = search (rules, the_lemmas)
 
-sparse_is : (ilvs : List Ilv) → body_written (v.Sparse ilvs) ≡ wrapped 275 (joined (map ilv_written ilvs))
+pub sparse_is : (ilvs : List Ilv) → body_written (v.Sparse ilvs) ≡ wrapped 275 (joined (map ilv_written ilvs))
 sparse_is ilvs = search (rules, the_lemmas)
 
 pub outcome_is : (code : ℕ) → body_written (v.Outcome code) ≡ result_written code
@@ -59,7 +59,7 @@ pub joined_whole : {A : Type 0} (f : A → Written) (whole : (x : A) → length 
 joined_whole f whole [] = refl
 joined_whole f whole (x ∷ xs) = omega (arith, whole x, joined_whole f whole xs, length-append (f x).text (joined (map f xs)).text)
 
-ilv_whole : (ilv : Ilv) → length (ilv_written ilv).text % 4 ≡ 0
+pub ilv_whole : (ilv : Ilv) → length (ilv_written ilv).text % 4 ≡ 0
 ilv_whole ilv = ilv_length ilv.ident ilv.value
 
 pub path_whole : (p : PathData) → length (path_written p).text % 4 ≡ 0

@@ -21,7 +21,7 @@ use Rattle.fc_path.proofs.Closing.{and_left, and_right, both_true, path_is, nest
 use Rattle.fc_path.proofs.Complete.{ids_length}
 use Rattle.fc_path.proofs.InGrammar.{joined_whole, path_whole, oper_whole, key_whole, body_whole, outcome_is}
 
-padding_length : (n : ℕ) → length (padding n) ≡ (4 - n % 4) % 4
+pub padding_length : (n : ℕ) → length (padding n) ≡ (4 - n % 4) % 4
 unfolding padding
 padding_length n = length-replicate ((4 - n % 4) % 4) 0
 
@@ -30,10 +30,10 @@ pub tlv_size : (kind : ℕ) (value : List ℕ) → length (tlv_bytes kind value)
 unfolding tlv_bytes
 tlv_size kind value = omega (arith, padding_length (length value), length-append value (padding (length value)))
 
-lt_yes : (m n : ℕ) → m < n → nat_lt m n ≡ true
+pub lt_yes : (m n : ℕ) → m < n → nat_lt m n ≡ true
 lt_yes m n h = grind arith
 
-lt_no : (m n : ℕ) → n ≤ m → nat_lt m n ≡ false
+pub lt_no : (m n : ℕ) → n ≤ m → nat_lt m n ≡ false
 lt_no m n h = grind arith
 
 -- what is held in a TLV whose value needs no padding
@@ -107,14 +107,14 @@ path_many p h = path_fits p ∙ and_left _ _ (lt_no (length (value_text p)) 6553
 pub path_key_fails : (p : PathData) → Sized None (key_written p.key) → Sized None (path_written (path_results p))
 path_key_fails p h = path_fits p ∙ and_right _ _ (and_right (nat_lt (length p.ids) 65536) _ (and_left _ _ h))
 
-body_cases : (n : ℕ) (f : Bool) (P : Type 0) → (nat_lt n 65532 && f) ≡ false → (65532 ≤ n → P) → (f ≡ false → P) → P
-body_cases n true P h a b = a (grind arith)
-body_cases n false P h a b = b refl
+pub held_cases : (limit n : ℕ) (f : Bool) (P : Type 0) → (nat_lt n limit && f) ≡ false → (limit ≤ n → P) → (f ≡ false → P) → P
+held_cases limit n true P h a b = a (grind arith)
+held_cases limit n false P h a b = b refl
 
 pub path_body_fails : (p : PathData) → Held 65532 None (body_written (body_results p.body)) → Sized None (path_written (path_results p))
 path_body_fails p h =
     let body = body_written (body_results p.body) in
-    path_fits p ∙ body_cases (length body.text) body.fits ((nat_lt (length (value_text p)) 65532 && value_fits p) ≡ false) h
+    path_fits p ∙ held_cases 65532 (length body.text) body.fits ((nat_lt (length (value_text p)) 65532 && value_fits p) ≡ false) h
     (λ (large : 65532 ≤ length body.text). and_left _ _ (lt_no (length (value_text p)) 65532 (omega (arith, value_size p, large))))
     (λ no. and_right _ _ (and_right (nat_lt (length p.ids) 65536) _ (and_right (key_written p.key).fits _ no)))
 
@@ -224,7 +224,7 @@ with_none s (o ∷ os) h =
     let inner = joined (map oper_written (o ∷ os)) in
     let value = u32_bytes s.class ++ u32_bytes s.instance ++ inner.text in
     and_left (nat_lt (length value) 65532 && (true && inner.fits)) true
-    (body_cases (length inner.text) inner.fits ((nat_lt (length value) 65532 && (true && inner.fits)) ≡ false) h
+    (held_cases 65532 (length inner.text) inner.fits ((nat_lt (length value) 65532 && (true && inner.fits)) ≡ false) h
     (λ (large : 65532 ≤ length inner.text). and_left _ _ (lt_no (length value) 65532 (omega arith))) (λ no. and_right (nat_lt (length value) 65532) _ no))
 
 with_zero : (s : Select) (os : List Oper) → Held 65532 (Some 0) (joined (map oper_written os)) → Sized (Some 0) (joined (map select_written (select_with s os)))

@@ -54,10 +54,16 @@ abbrev pub key_flags : Option Key → ℕ
 key_flags None = 0
 key_flags (Some key) = 2 ^ 15
 
+abbrev pub full_written : List ℕ → Written
+full_written value = wrapped types.full_data (plain value)
+
+abbrev pub sparse_written : List Ilv → Written
+sparse_written ilvs = wrapped types.sparse_data (joined (map ilv_written ilvs))
+
 abbrev pub body_step : Body-F Written Written → Written
 body_step Body-F.Nothing = plain []
-body_step (Body-F.Full value) = wrapped types.full_data (plain value)
-body_step (Body-F.Sparse ilvs) = wrapped types.sparse_data (joined (map ilv_written ilvs))
+body_step (Body-F.Full value) = full_written value
+body_step (Body-F.Sparse ilvs) = sparse_written ilvs
 body_step (Body-F.Outcome code) = result_written code
 body_step (Body-F.Nested ws) = joined ws
 

@@ -6,6 +6,7 @@ mod heads;
 mod kinds;
 mod laws;
 mod leaves;
+mod measuring;
 mod oper;
 mod path;
 mod read_path;
@@ -21,6 +22,7 @@ pub use laws::{
     a_path_is_its_head_and_its_body, faults_are_in_reading_order, reading_is_the_grammar,
     selects_are_unique, written_selects_are_read,
 };
+pub use measuring::written_select;
 pub use oper::{Leaf, Oper, OperKind, Select, Spot, Step};
 pub use path::{Body, Key, PathData};
 pub use read_path::{read_only_outcome, read_outcome};

@@ -2,7 +2,7 @@
 ghost use Rattle.std.specs.Prelude.{◌≡◌, IfOk};
 
 use crate::{Body, PathData};
-use fc_base::{Code, Duplicate, List, Memory, Octets};
+use fc_base::{Code, Duplicate, List, Memory, Octets, Shared};
 
 /// The operations that hold PATH-DATA (RFC 5810, section 7.1.6).
 #[derive(Clone, Copy, Debug, PartialEq, Eq)]
@@ -24,7 +24,7 @@ pub enum OperKind {
 #[derive(Debug, PartialEq, Eq, Drop)]
 pub enum Oper {
     /// An operation on the places of PATH-DATA, of which there is at least one.
-    Paths(OperKind, List<PathData>),
+    Paths(OperKind, Shared<PathData>),
     /// The end of a transaction's first phase.
     Commit,
     /// The end of a transaction.

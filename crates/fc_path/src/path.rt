@@ -87,11 +87,11 @@ fn copy_body(body: &Body) -> Result<Body, Memory>
 fn copy_paths(paths: &List<PathData>) -> Result<List<PathData>, Memory>
     ensures { IfOk result (λ others. others ≡ paths.now) }
 {
-    let mut others = List::new(paths.alloc());
+    let mut others = Vec::with_capacity(paths.alloc(), paths.len())?;
     for path in paths.as_slice() {
         others.push(copy_path(path)?)?;
     }
-    Ok(others)
+    Ok(List::from_vec(others))
 }
 
 impl Duplicate for PathData {

@@ -10,7 +10,7 @@ use crate::kinds::{Operation, holds_selects, operation_for};
 use crate::read_path::{read_only_outcome, read_path};
 use crate::stray::{is_known_in_select, misplaced};
 use crate::{Oper, OperKind, PathData, PathFault, Select};
-use fc_base::{Code, List};
+use fc_base::{Code, List, Shared};
 use fc_wire::{PATH_DATA, SELECT, Tlv, Tlvs, WireFault, read_u32};
 use std::alloc::Global;
 
@@ -55,7 +55,7 @@ fn read_operation(alloc: Global, operation: Operation, tlv: &Tlv) -> Result<Oper
     match operation {
         Operation::Paths(kind) => {
             let paths = read_paths(alloc, kind, Tlvs::over(padded, place), end)?;
-            Ok(Oper::Paths(kind, paths))
+            Ok(Oper::Paths(kind, Shared::of(paths)?))
         }
         Operation::Commit => {
             if !tlv.body.is_empty() {

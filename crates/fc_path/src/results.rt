@@ -7,12 +7,12 @@ ghost use Rattle.fc_path.specs.Results.{Sized, Held, path_results, body_results,
 use crate::{Body, Key, Oper, PathData, Select};
 
 // The most bytes of a TLV's value, and the most bytes of a message behind its header.
-const VALUE: usize = 65531;
+pub(crate) const VALUE: usize = 65531;
 
 const MESSAGE: usize = 262116;
 
 // The bytes of the KEYINFO of a key.
-fn key_size(key: &Option<Key>) -> Option<usize>
+pub(crate) fn key_size(key: &Option<Key>) -> Option<usize>
     ensures size { Sized result (key_written key.now) }
     ensures small { IfSome result (λ n. n < 65536) }
 {

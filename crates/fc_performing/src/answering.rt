@@ -9,9 +9,8 @@ ghost use Rattle.fc_reply.specs.Replies as replies;
 ghost use Rattle.fc_performing.specs.Sending as spec;
 
 use crate::Out;
-use crate::notices::can_be_encoded;
 use fc_base::{Code, Duplicate, List, Memory};
-use fc_msg::Message;
+use fc_msg::{Message, fits};
 use fc_path::{Select, fits_results};
 use fc_reply::{each_gets, reply};
 use std::alloc::Global;
@@ -24,13 +23,10 @@ pub struct Answered {
 }
 
 /// Whether the response to a Config may be sent: that of results alone passes no length field, and neither does the Config itself.
-pub fn can_be_answered(alloc: Global, request: &Message, selects: &[Select]) -> Result<bool, Memory>
-    ensures { IfOk result (λ can. can ≡ (results_fit selects.now && message_fits request.now)) }
+pub fn can_be_answered(request: &Message, selects: &[Select]) -> bool
+    ensures { result ≡ (results_fit selects.now && message_fits request.now) }
 {
-    if !fits_results(selects) {
-        return Ok(false);
-    }
-    can_be_encoded(alloc, request)
+    fits_results(selects) && fits(request)
 }
 
 // A list of one message to a peer.

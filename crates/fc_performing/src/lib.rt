@@ -8,6 +8,6 @@ mod out;
 mod performing;
 
 pub use answering::{Answered, can_be_answered, refusals, repeated, responses};
-pub use notices::{can_be_encoded, push_notices};
+pub use notices::push_notices;
 pub use out::{Out, Route};
 pub use performing::{are_props, execute, tell};

@@ -6,25 +6,13 @@ ghost use Rattle.fc_performing.specs.Notices as spec;
 ghost use Rattle.fc_performing.specs.Sending.{IsSaid, event_from};
 
 use crate::{Out, Route};
-use fc_base::{List, Memory, WriteFault};
+use fc_base::{List, Memory};
 use fc_events::Notice;
-use fc_msg::{Message, MsgBody, encode};
+use fc_msg::{Message, MsgBody, fits};
 use fc_path::Select;
 use fc_types::Library;
 use fc_wire::Flags;
 use std::alloc::Global;
-
-/// Whether a message can be encoded.
-pub fn can_be_encoded(alloc: Global, message: &Message) -> Result<bool, Memory>
-    ensures { IfOk result (λ can. can ≡ message_fits message.now) }
-{
-    let mut bytes = Vec::new(alloc);
-    match encode(message, &mut bytes) {
-        Ok(()) => Ok(true),
-        Err(WriteFault::TooLong) => Ok(false),
-        Err(WriteFault::Memory) => Err(Memory),
-    }
-}
 
 // A message to a control element that tells of events.
 fn event_message(from: u32, to: u32, selects: List<Select>) -> Message
@@ -74,7 +62,7 @@ fn push_notice(
     ensures proper { OnOk result (AllByRecursion IsSaid outs.old → AllByRecursion IsSaid outs.new) }
 {
     let message = notice_message(outs.alloc(), library, route, notice)?;
-    if can_be_encoded(outs.alloc(), &message)? {
+    if fits(&message) {
         outs.push(Out {
             peer: route.peer,
             message,

@@ -31,6 +31,14 @@ whole_scopes : (ps : List (ℕ × List (List Select))) → list_all has_scope (m
 whole_scopes [] = refl
 whole_scopes (p ∷ ps) = whole_scopes ps
 
+or_none : (o : Option PlanFault) → or_next o None ≡ o
+or_none None = refl
+or_none (Some f) = refl
+
+-- where everything may be changed the order alone can be wrong
+pub whole_fault_is : (ps : List (ℕ × List (List Select))) → order_fault (map whole ps) ≡ plan_fault (map whole ps)
+whole_fault_is ps = sym (ap (λ b. or_next (order_fault (map whole ps)) (cond b None (Some fault.Changes))) (whole_scopes ps) ∙ or_none (order_fault (map whole ps)))
+
 pub scoped_again : (ps : List (ℕ × List (List Select))) → map rescoped (map whole ps) ≡ map scoped ps
 scoped_again [] = refl
 scoped_again (p ∷ ps) = ap (λ (qs : List Part). scoped p ∷ qs) (scoped_again ps)

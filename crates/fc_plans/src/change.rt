@@ -4,16 +4,16 @@ ghost use Rattle.std.specs.List.{list_all};
 ghost use Rattle.fc_path.specs.declared.path.Body.{out-Body};
 ghost use Rattle.fc_plans.specs.Changes as spec;
 ghost use Rattle.fc_plans.specs.Changes.{change_fault};
+ghost use Rattle.fc_plans.specs.Mastership.{behind};
 ghost use Rattle.fc_plans.specs.declared.fault.ChangeFault.TheVariants as fault;
 
-use crate::components::FLOOR;
+use crate::components::{FLOOR, SUBJECT};
 use crate::fault::ChangeFault;
-use crate::mastership::behind;
-use fc_base::{Duplicate, List, Memory, Octets, WriteFault};
-use fc_msg::{Message, MsgBody, encode};
+use crate::mastership::set_selects;
+use fc_base::{Duplicate, List, Memory, Octets};
+use fc_msg::selects_fit;
 use fc_path::{Body, Oper, OperKind, PathData, Select, fits_results};
 use fc_types::MASTERSHIP;
-use fc_wire::Flags;
 use std::alloc::Global;
 use std::marker::Model;
 
@@ -177,39 +177,12 @@ fn is_floor(selects: &[Select]) -> bool
     }
 }
 
-// The message of these selects, its header aside.
-fn carrying(selects: List<Select>) -> Message
-    ensures { result ≡ spec.carrying selects }
-{
-    Message {
-        source: 0,
-        dest: 0,
-        corr: 0,
-        flags: Flags {
-            ack: 0,
-            pri: 0,
-            em: 0,
-            at: false,
-            tp: 0,
-        },
-        body: MsgBody::Config(selects),
-    }
-}
-
 // Whether a message of these selects and the response of results alone to it pass no length field.
-fn is_short(alloc: Global, selects: List<Select>) -> Result<bool, Memory>
-    ensures { IfOk result (λ short. short ≡ spec.is_short selects) }
+#[tactic(auto, unfolding(fc_msg::specs::Messages::message_fits))]
+fn is_short(selects: &[Select]) -> bool
+    ensures { result ≡ spec.is_short selects.now }
 {
-    if !fits_results(selects.as_slice()) {
-        return Ok(false);
-    }
-    let message = carrying(selects);
-    let mut bytes = Vec::new(alloc);
-    match encode(&message, &mut bytes) {
-        Ok(()) => Ok(true),
-        Err(WriteFault::TooLong) => Ok(false),
-        Err(WriteFault::Memory) => Err(Memory),
-    }
+    fits_results(selects) && selects_fit(selects)
 }
 
 // The name of no transaction.
@@ -219,6 +192,17 @@ fn no_name(alloc: Global) -> Result<Octets, Memory>
     let mut bytes = Vec::new(alloc);
     bytes.extend_from_slice(&[0, 0, 0, 0, 0, 0, 0, 0])?;
     Ok(Octets::from_vec(bytes))
+}
+
+// The selects behind one that names no transaction.
+fn unnamed(selects: List<Select>) -> Result<Vec<Select>, Memory>
+    ensures { IfOk result (λ all. all.items ≡ behind spec.no_name selects) }
+{
+    let alloc = selects.alloc();
+    let mut all = set_selects(alloc, SUBJECT, no_name(alloc)?)?.into_vec();
+    let mut selects = selects.into_vec();
+    all.append(&mut selects)?;
+    Ok(all)
 }
 
 impl Change {
@@ -234,12 +218,14 @@ impl Change {
         if !all_change(selects.as_slice()) || is_floor(selects.as_slice()) {
             return Err(ChangeFault::Operation);
         }
-        let alloc = selects.alloc();
-        let message = behind(alloc, no_name(alloc)?, selects.as_slice())?;
-        if !is_short(alloc, message)? {
+        let mut all = unnamed(selects)?;
+        if !is_short(all.as_slice()) {
             return Err(ChangeFault::TooLong);
         }
-        Ok(Change { selects })
+        all.remove(0);
+        Ok(Change {
+            selects: List::from_vec(all),
+        })
     }
 
     /// The selects, in the order in which they are done.

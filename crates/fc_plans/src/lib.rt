@@ -16,5 +16,5 @@ pub use mastership::{
     on_mastership, one, path, push_selects, put_number, put_subject, set, set_selects, subject,
     with_subject,
 };
-pub use plan::{MOST_CHANGES, Part, TxnPlan};
+pub use plan::{MOST_CHANGES, Part, TxnPlan, whole_fault};
 pub use scopes::MOST_INSTANCES;

@@ -5,7 +5,7 @@ ghost use Rattle.fc_plans.specs.Components as components;
 ghost use Rattle.fc_plans.specs.Mastership as spec;
 
 use crate::components::SUBJECT;
-use fc_base::{Duplicate, List, Memory, Octets, TxnId};
+use fc_base::{Duplicate, List, Memory, Octets, Shared, TxnId};
 use fc_path::{Body, Key, Oper, OperKind, PathData, Select};
 use fc_types::MASTERSHIP;
 use std::alloc::Global;
@@ -57,7 +57,7 @@ pub fn set(alloc: Global, id: u32, bytes: Octets) -> Result<Oper, Memory>
     ensures { IfOk result (λ o. o ≡ spec.sets id bytes) }
 {
     let paths = one(alloc, path(alloc, id, None, Body::Full(bytes))?)?;
-    Ok(Oper::Paths(OperKind::Set, paths))
+    Ok(Oper::Paths(OperKind::Set, Shared::of(paths)?))
 }
 
 /// Operations on the one instance of Mastership.

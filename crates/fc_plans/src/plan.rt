@@ -119,6 +119,58 @@ fn whole_parts(parts: List<(FeId, List<Change>)>) -> Result<List<Part>, Memory>
     Ok(others)
 }
 
+fn whole_rise_after(element: FeId, parts: &[(FeId, List<Change>)]) -> bool
+    ensures { result ≡ spec.rises_after element (map spec.whole parts.now) }
+{
+    match parts {
+        [] => true,
+        [first, rest @ ..] => element < first.0 && whole_rise_after(first.0, rest),
+    }
+}
+
+fn whole_have_changes(parts: &[(FeId, List<Change>)]) -> bool
+    ensures { result ≡ list_all spec.has_changes (map spec.whole parts.now) }
+{
+    match parts {
+        [] => true,
+        [first, rest @ ..] => {
+            let count = first.1.len();
+            1 <= count && count <= MOST_CHANGES && whole_have_changes(rest)
+        }
+    }
+}
+
+fn whole_rise(parts: &[(FeId, List<Change>)]) -> bool
+    ensures { result ≡ spec.is_rising (map spec.whole parts.now) }
+{
+    match parts {
+        [] => true,
+        [first, rest @ ..] => whole_rise_after(first.0, rest),
+    }
+}
+
+fn whole_order(parts: &[(FeId, List<Change>)]) -> Option<PlanFault>
+    ensures { result ≡ spec.order_fault (map spec.whole parts.now) }
+{
+    if parts.is_empty() {
+        return Some(PlanFault::Empty);
+    }
+    if !whole_rise(parts) {
+        return Some(PlanFault::Order);
+    }
+    if !whole_have_changes(parts) {
+        return Some(PlanFault::Changes);
+    }
+    None
+}
+
+/// Why these participants with their changes are no plan that may change everything at each of them: what [`TxnPlan::of`] tells of them.
+pub fn whole_fault(parts: &[(FeId, List<Change>)]) -> Option<PlanFault>
+    ensures { result ≡ plan_fault (map spec.whole parts.now) }
+{
+    whole_order(parts)
+}
+
 impl TxnPlan {
     /// The transaction of these participants with their changes, which may change everything at each of them. The faults are looked for in
     /// the order of [`PlanFault`].

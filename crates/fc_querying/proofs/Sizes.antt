@@ -36,20 +36,20 @@ use Rattle.fc_querying.proofs.Values.{out_array, out_struct, out_table, transact
 abbrev pub Few : ℕ → Written → Type 0
 Few n w = (w.fits ≡ true) × (length w.text ≤ n)
 
-both : (a b : Bool) → a ≡ true → b ≡ true → (a && b) ≡ true
+pub both : (a b : Bool) → a ≡ true → b ≡ true → (a && b) ≡ true
 both true b h k = k
 both false b h k = cc
 
-below : (m n : ℕ) → m < n → nat_lt m n ≡ true
+pub below : (m n : ℕ) → m < n → nat_lt m n ≡ true
 below m n h = grind arith
 
-wrapped_few : (kind n : ℕ) (w : Written) → n < 65532 → Few n w → Few (n + 7) (wrapped kind w)
+pub wrapped_few : (kind n : ℕ) (w : Written) → n < 65532 → Few n w → Few (n + 7) (wrapped kind w)
 wrapped_few kind n w less h = (both _ _ (below (length w.text) 65532 (omega (arith, h.1, less))) h.0, omega (arith, tlv_size kind w.text, h.1))
 
-after_few : (m n : ℕ) (v w : Written) → Few m v → Few n w → Few (m + n) (after v w)
+pub after_few : (m n : ℕ) (v w : Written) → Few m v → Few n w → Few (m + n) (after v w)
 after_few m n v w h k = (both _ _ h.0 k.0, omega (arith, length-append v.text w.text, h.1, k.1))
 
-one_few : (n : ℕ) (w : Written) → Few n w → Few n (joined (w ∷ []))
+pub one_few : (n : ℕ) (w : Written) → Few n w → Few n (joined (w ∷ []))
 one_few n w h = (both _ _ h.0 refl, omega (arith, length-append w.text [], h.1))
 
 -- ---- contents
@@ -74,7 +74,7 @@ key_few bytes h =
 
 -- ---- the response with two contents
 
-path_few : (id k n : ℕ) (key : Option Key) (b : Body) → Few k (key_written key) → Few n (body_written b) → k + n < 65000 → Few (k + n + 15) (path_written (path (id ∷ []) key b))
+pub path_few : (id k n : ℕ) (key : Option Key) (b : Body) → Few k (key_written key) → Few n (body_written b) → k + n < 65000 → Few (k + n + 15) (path_written (path (id ∷ []) key b))
 path_few id k n key b h few less =
     let inner : Written = record { text = u16_bytes (key_flags key) ++ u16_bytes 1 ++ flat_map u32_bytes (id ∷ []) ++ ((key_written key).text ++ (body_written b).text); fits = nat_lt 1 65536 && ((key_written key).fits && (body_written b).fits) } in
     let held : Few (k + n + 8) inner = (both _ _ h.0 few.0, omega (arith, length-append (key_written key).text (body_written b).text, h.1, few.1)) in

@@ -18,7 +18,7 @@ fn push_body(to: &mut List<Code>, body: &Body, code: Code) -> Result<(), Memory>
     ensures { OnOk result (to.new ≡ to.old ++ spec.body_gets code body.now) }
 {
     match body {
-        Body::Nested(paths) => push_paths(to, paths, code),
+        Body::Nested(paths) => push_paths(to, paths.as_slice(), code),
         Body::Nothing => to.push(code),
         Body::Full(_) => to.push(code),
         Body::Sparse(_) => to.push(code),
@@ -27,10 +27,10 @@ fn push_body(to: &mut List<Code>, body: &Body, code: Code) -> Result<(), Memory>
 }
 
 #[cycle(each)]
-fn push_paths(to: &mut List<Code>, paths: &List<PathData>, code: Code) -> Result<(), Memory>
+fn push_paths(to: &mut List<Code>, paths: &[PathData], code: Code) -> Result<(), Memory>
     ensures { OnOk result (to.new ≡ to.old ++ spec.paths_get code paths.now) }
 {
-    for path in paths.as_slice() {
+    for path in paths {
         push_path(to, path, code)?;
     }
     Ok(())
@@ -40,7 +40,7 @@ fn push_oper(to: &mut List<Code>, oper: &Oper, code: Code) -> Result<(), Memory>
     ensures { OnOk result (to.new ≡ to.old ++ spec.oper_gets code oper.now) }
 {
     match oper {
-        Oper::Paths(_, paths) => push_paths(to, paths, code),
+        Oper::Paths(_, paths) => push_paths(to, paths.as_slice(), code),
         Oper::Commit => to.push(code),
         Oper::Trcomp => to.push(code),
         Oper::CommitResponse(_) => Ok(()),

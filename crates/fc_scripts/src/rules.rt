@@ -12,7 +12,6 @@ use crate::steps::are_few;
 use fc_base::{CeId, FeId, Memory};
 use fc_documents::{PlanTxn, keep};
 use fc_library::{DocumentRule, LibFault};
-use fc_plans::PlanFault;
 use fc_steps::StepText;
 
 // The most controllers of a script.
@@ -100,19 +99,9 @@ fn all_make_plans(transactions: &[PlanTxn]) -> Result<bool, Memory>
     ensures { IfOk result (λ make. make ≡ list_all parts.makes_plan transactions.now) }
 {
     for transaction in transactions {
-        if !makes_plan(transaction)? {
+        if !transaction.makes_plan()? {
             return Ok(false);
         }
     }
     Ok(true)
-}
-
-fn makes_plan(transaction: &PlanTxn) -> Result<bool, Memory>
-    ensures { IfOk result (λ makes. makes ≡ parts.makes_plan transaction.now) }
-{
-    match transaction.plan() {
-        Ok(_) => Ok(true),
-        Err(PlanFault::Memory) => Err(Memory),
-        Err(_) => Ok(false),
-    }
 }

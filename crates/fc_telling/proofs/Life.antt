@@ -8,7 +8,7 @@ use Rattle.fc_element.specs.ElementState.{ElementState, opened}
 use Rattle.fc_element.specs.Runs.{after, did_at, did_by}
 use Rattle.fc_element.specs.declared.input.ElIn.{ElIn}
 use Rattle.fc_element.specs.declared.input.ElIn.TheVariants.{Opened, Arrived, Closed, Moment}
-use Rattle.fc_element.proofs.Configured.{IsResponse}
+use Rattle.fc_element.proofs.Configuring.{IsResponse}
 use Rattle.fc_element.proofs.Runs.{kept_responds, step_responds}
 use Rattle.fc_events.specs.Order.{DoRise, NeverFall, places, told_places}
 use Rattle.fc_events.specs.Reports.{reports_but}

@@ -8,7 +8,7 @@ use Rattle.fc_assoc.specs.declared.heard.Heard.{Heard}
 use Rattle.fc_element.specs.ElementMachine.{beaten, beating, beats_of, down_outs, has_lost, heartbeat_of, id_of, is_due, ledger_of, turn}
 use Rattle.fc_element.specs.ElementState.{ElementState}
 use Rattle.fc_element.specs.Notices.{down_to, listed, peers_of}
-use Rattle.fc_element.proofs.Configured.{IsResponse}
+use Rattle.fc_element.proofs.Configuring.{IsResponse}
 use Rattle.fc_element.proofs.Telling.{all_append}
 use Rattle.fc_events.specs.Events.{place}
 use Rattle.fc_events.specs.Order.{IsNotBefore, NeverFall, told_places}

@@ -7,7 +7,7 @@ use crate::TextFault;
 use crate::lines::Lines;
 use crate::read_path::{read_outcome, read_paths};
 use crate::show_path::DEPTH;
-use fc_base::List;
+use fc_base::{List, Shared};
 use fc_path::{Oper, OperKind, Operation, PathData, Select};
 use std::alloc::Global;
 
@@ -42,7 +42,7 @@ fn read_operation(
     match operation {
         Operation::Paths(kind) => {
             let paths = read_operation_paths(alloc, kind, level, lines)?;
-            Ok(Oper::Paths(kind, paths))
+            Ok(Oper::Paths(kind, Shared::of(paths)?))
         }
         Operation::Commit => Ok(Oper::Commit),
         Operation::Trcomp => Ok(Oper::Trcomp),

@@ -2,8 +2,9 @@
 use Rattle.std.proofs.Common.{◌≡◌, ◌∙◌, sym, ap, refl, ℕ, List, [], ◌⊎◌, Option, None, Some, Result, Ok, Err, inl, inr, take, arith}
 use Rattle.std.proofs.KnownBytes.{Appends-nil}
 use Rattle.fc_base.specs.Causes.{Rose}
+use Rattle.fc_playing.specs.Runs.{WasPlayed}
 use Rattle.fc_words.specs.declared.commands.Command.{Command}
-use Rattle.fc_words.specs.declared.commands.Command.TheVariants.{Control, Element, Make, Show}
+use Rattle.fc_words.specs.declared.commands.Command.TheVariants.{Control, Element, Gen, Make, Show, World}
 use Rattle.fc_tool.specs.declared.make.Made.{Made}
 use Rattle.fc_tool.specs.declared.show.Shown.{Shown}
 use Rattle.fc_endings.specs.declared.stops.Stop.{Stop}
@@ -25,6 +26,8 @@ fe_of (Some (Element fe ce address connections turns)) = fe
 fe_of (Some (Control ce rounds connections turns addresses)) = 0
 fe_of (Some Show) = 0
 fe_of (Some Make) = 0
+fe_of (Some World) = 0
+fe_of (Some (Gen n)) = 0
 fe_of None = 0
 
 ce_of : Option Command → ℕ
@@ -32,6 +35,8 @@ ce_of (Some (Element fe ce address connections turns)) = ce
 ce_of (Some (Control ce rounds connections turns addresses)) = ce
 ce_of (Some Show) = 0
 ce_of (Some Make) = 0
+ce_of (Some World) = 0
+ce_of (Some (Gen n)) = 0
 ce_of None = 0
 
 turns_of : Option Command → ℕ
@@ -39,6 +44,8 @@ turns_of (Some (Element fe ce address connections turns)) = turns
 turns_of (Some (Control ce rounds connections turns addresses)) = turns
 turns_of (Some Show) = 0
 turns_of (Some Make) = 0
+turns_of (Some World) = 0
+turns_of (Some (Gen n)) = 0
 turns_of None = 0
 
 -- two answers of the same words are one
@@ -62,6 +69,8 @@ addresses_of (Some (Element fe ce address connections turns)) = []
 addresses_of (Some (Control ce rounds connections turns addresses)) = addresses
 addresses_of (Some Show) = []
 addresses_of (Some Make) = []
+addresses_of (Some World) = []
+addresses_of (Some (Gen n)) = []
 addresses_of None = []
 
 pub one_control : (meant : Option Command) (ce : ℕ) (rounds : List ℕ) (connections turns : ℕ) (addresses : List (List ℕ)) (ce' : ℕ) (rounds' : List ℕ) (connections' turns' : ℕ) (addresses' : List (List ℕ))
@@ -79,6 +88,46 @@ make_or_control meant ce rounds connections turns addresses one other = let same
 pub element_or_control : (meant : Option Command) (ce : ℕ) (rounds : List ℕ) (connections turns : ℕ) (addresses : List (List ℕ)) (fe ce' : ℕ) (address : List ℕ) (connections' turns' : ℕ)
     → meant ≡ Some (Control ce rounds connections turns addresses) → meant ≡ Some (Element fe ce' address connections' turns') → ⊥
 element_or_control meant ce rounds connections turns addresses fe ce' address connections' turns' one other = let same = sym one ∙ other in cc same
+
+pub world_or_show : (meant : Option Command) → meant ≡ Some World → meant ≡ Some Show → ⊥
+world_or_show meant one other = let same = sym one ∙ other in cc same
+
+pub world_or_make : (meant : Option Command) → meant ≡ Some World → meant ≡ Some Make → ⊥
+world_or_make meant one other = let same = sym one ∙ other in cc same
+
+pub world_or_element : (meant : Option Command) (fe ce : ℕ) (address : List ℕ) (connections turns : ℕ) → meant ≡ Some World → meant ≡ Some (Element fe ce address connections turns) → ⊥
+world_or_element meant fe ce address connections turns one other = let same = sym one ∙ other in cc same
+
+pub world_or_control : (meant : Option Command) (ce : ℕ) (rounds : List ℕ) (connections turns : ℕ) (addresses : List (List ℕ)) → meant ≡ Some World → meant ≡ Some (Control ce rounds connections turns addresses) → ⊥
+world_or_control meant ce rounds connections turns addresses one other = let same = sym one ∙ other in cc same
+
+pub gen_or_show : (meant : Option Command) (n : ℕ) → meant ≡ Some (Gen n) → meant ≡ Some Show → ⊥
+gen_or_show meant n one other = let same = sym one ∙ other in cc same
+
+pub gen_or_make : (meant : Option Command) (n : ℕ) → meant ≡ Some (Gen n) → meant ≡ Some Make → ⊥
+gen_or_make meant n one other = let same = sym one ∙ other in cc same
+
+pub gen_or_world : (meant : Option Command) (n : ℕ) → meant ≡ Some (Gen n) → meant ≡ Some World → ⊥
+gen_or_world meant n one other = let same = sym one ∙ other in cc same
+
+pub gen_or_element : (meant : Option Command) (n fe ce : ℕ) (address : List ℕ) (connections turns : ℕ) → meant ≡ Some (Gen n) → meant ≡ Some (Element fe ce address connections turns) → ⊥
+gen_or_element meant n fe ce address connections turns one other = let same = sym one ∙ other in cc same
+
+pub gen_or_control : (meant : Option Command) (n ce : ℕ) (rounds : List ℕ) (connections turns : ℕ) (addresses : List (List ℕ)) → meant ≡ Some (Gen n) → meant ≡ Some (Control ce rounds connections turns addresses) → ⊥
+gen_or_control meant n ce rounds connections turns addresses one other = let same = sym one ∙ other in cc same
+
+count_of : Option Command → ℕ
+count_of (Some (Element fe ce address connections turns)) = 0
+count_of (Some (Control ce rounds connections turns addresses)) = 0
+count_of (Some Show) = 0
+count_of (Some Make) = 0
+count_of (Some World) = 0
+count_of (Some (Gen n)) = n
+count_of None = 0
+
+pub one_gen : (meant : Option Command) (n m : ℕ) → meant ≡ Some (Gen n) → meant ≡ Some (Gen m) → n ≡ m
+unfolding count_of
+one_gen meant n m one other = ap count_of (sym one ∙ other)
 
 -- ---- a run of a command
 
@@ -123,3 +172,9 @@ show_none limit left known f k =
 pub make_none : (limit : ℕ) (left known : Option (List ℕ)) (f k : ℕ) → MakeRuns limit 9 left left known known (Rose f f) (Rose k k)
 make_none limit left known f k =
     make_runs (Err NoMemory) limit 9 left left known known f f k k refl (inr (([], consumes_none left, omega arith), Appends-nil known)) (inl refl) refl
+
+-- with the status of that no script was played
+pub not_played : (limit status : ℕ) (document : List ℕ) (Unread : Type 0) → status ≡ 9 → WasPlayed limit status document Unread → ⊥
+not_played limit status document Unread is (inl at) = absurd (omega (arith, is, at))
+not_played limit status document Unread is (inr (inl at)) = absurd (omega (arith, is, at))
+not_played limit status document Unread is (inr (inr (at, short, read))) = absurd (omega (arith, is, at))

@@ -1,5 +1,5 @@
 // The top call of the program.
-ghost use Rattle.std.specs.Prelude.{◌≡◌, ◌≢◌, ◌⊎◌, ◌+◌, ◌-◌, ◌^◌, ◌<◌, ◌≤◌, ℕ, List, None, Some, Result, map, string_bytes};
+ghost use Rattle.std.specs.Prelude.{◌≡◌, ◌≢◌, ◌⊎◌, ◌+◌, ◌-◌, ◌^◌, ◌<◌, ◌≤◌, ℕ, List, None, Some, Ok, Result, map, string_bytes};
 ghost use Rattle.fc_base.specs.Causes.{Rose};
 ghost use Rattle.fc_base.specs.Content.{IsFlushed};
 ghost use Rattle.fc_words.specs.Commands.{command_of};
@@ -7,6 +7,12 @@ ghost use Rattle.fc_words.specs.declared.commands.Command.TheVariants as meant;
 ghost use Rattle.fc_endings.specs.declared.stops.Stop.{Stop};
 ghost use Rattle.fc_controlling.specs.ControlRun.{control_status};
 ghost use Rattle.fc_controlling.specs.Runs.{ControlRuns};
+ghost use Rattle.fc_following.specs.Promise.{HadOnePlan, HasAgreed, HasFolded, HasSettled, HasSettledOnce, IsFenced, WasReady};
+ghost use Rattle.fc_generating.specs.Runs.{GenRuns, gen_status};
+ghost use Rattle.fc_playing.specs.Promised.{AtEachStep};
+ghost use Rattle.fc_playing.specs.Runs.{PlayRuns, WasPlayed};
+ghost use Rattle.fc_playing.specs.WorldRun.{play_status};
+ghost use Rattle.fc_scripts.specs.Scripts.{Scripted, script_of};
 ghost use Rattle.fc_serving.specs.ElementRun.{element_status};
 ghost use Rattle.fc_serving.specs.Runs.{ElementRuns};
 ghost use Rattle.fc_endings.specs.Limits.{most_bytes};
@@ -25,7 +31,9 @@ use crate::status::{
 use fc_base::{CeId, List, Sink, Source, Text};
 use fc_controlling::{Asked, ControlEnd, control};
 use fc_endings::{Stop, finish, put};
+use fc_generating::generate;
 use fc_hub::{Hub, Rounds};
+use fc_playing::{PlayEnd, world};
 use fc_serving::{ElementEnd, element};
 use fc_words::{Command, WordFault, command};
 use std::alloc::Global;
@@ -54,6 +62,35 @@ pub fn run<S: Source, K: Sink, H: Hub, R: Rounds>(
     ensures make { command_of (map string_bytes words.now) ≡ Some meant.Make
         → MakeRuns most_bytes result (S.left input.old) (S.left input.new) (K.written out.old) (K.written out.new)
         (Rose (S.faults input.old) (S.faults input.new)) (Rose (K.faults out.old) (K.faults out.new)) }
+    ensures world { command_of (map string_bytes words.now) ≡ Some meant.World
+        → PlayRuns most_bytes result (S.left input.old) (S.left input.new) (K.written out.old) (K.written out.new)
+        (Rose (S.faults input.old) (S.faults input.new)) (Rose (K.faults out.old) (K.faults out.new)) }
+
+    // A script that was played keeps the promise at every moment of it: its elements agree on each transaction, and each settles it once; they complete only
+    // what every participant had prepared, and all had opened with the same participants; what is settled at each of them is the fold of what it has
+    // completed; no Config of a life that it has replaced changes it; and what a control element counts as settled was settled so. After status 0 that is
+    // from the first step to the last, all of which were made. After status 5 it is up to the step that can't be made; where the document means no script,
+    // nothing was played. After status 3 it is one or the other, where the document could be read and is no longer than is looked at. After every other
+    // status nothing is said of it: a document that can't be read or is too long is not played, and one that ends for want of memory is cut short.
+    ensures agree { (document : List ℕ) (s : Scripted) → command_of (map string_bytes words.now) ≡ Some meant.World → S.left input.old ≡ Some document
+        → WasPlayed most_bytes result document (Rose (S.faults input.old) (S.faults input.new)) → script_of document ≡ Ok s → AtEachStep HasAgreed s }
+    ensures once { (document : List ℕ) (s : Scripted) → command_of (map string_bytes words.now) ≡ Some meant.World → S.left input.old ≡ Some document
+        → WasPlayed most_bytes result document (Rose (S.faults input.old) (S.faults input.new)) → script_of document ≡ Ok s → AtEachStep HasSettledOnce s }
+    ensures ready { (document : List ℕ) (s : Scripted) → command_of (map string_bytes words.now) ≡ Some meant.World → S.left input.old ≡ Some document
+        → WasPlayed most_bytes result document (Rose (S.faults input.old) (S.faults input.new)) → script_of document ≡ Ok s → AtEachStep WasReady s }
+    ensures one_plan { (document : List ℕ) (s : Scripted) → command_of (map string_bytes words.now) ≡ Some meant.World → S.left input.old ≡ Some document
+        → WasPlayed most_bytes result document (Rose (S.faults input.old) (S.faults input.new)) → script_of document ≡ Ok s → AtEachStep HadOnePlan s }
+    ensures folded { (document : List ℕ) (s : Scripted) → command_of (map string_bytes words.now) ≡ Some meant.World → S.left input.old ≡ Some document
+        → WasPlayed most_bytes result document (Rose (S.faults input.old) (S.faults input.new)) → script_of document ≡ Ok s → AtEachStep HasFolded s }
+    ensures fenced { (document : List ℕ) (s : Scripted) → command_of (map string_bytes words.now) ≡ Some meant.World → S.left input.old ≡ Some document
+        → WasPlayed most_bytes result document (Rose (S.faults input.old) (S.faults input.new)) → script_of document ≡ Ok s → AtEachStep IsFenced s }
+    ensures settled { (document : List ℕ) (s : Scripted) → command_of (map string_bytes words.now) ≡ Some meant.World → S.left input.old ≡ Some document
+        → WasPlayed most_bytes result document (Rose (S.faults input.old) (S.faults input.new)) → script_of document ≡ Ok s → AtEachStep HasSettled s }
+
+    // A large run reads nothing, and what it writes is the summary of its last world.
+    ensures large { (n : ℕ) → command_of (map string_bytes words.now) ≡ Some (meant.Gen n)
+        → GenRuns n result (K.written out.old) (K.written out.new) (Rose (K.faults out.old) (K.faults out.new)) × (input.new ≡ input.old) }
+
     ensures element { (fe ce : ℕ) (address : List ℕ) (connections turns : ℕ)
         → command_of (map string_bytes words.now) ≡ Some (meant.Element fe ce address connections turns)
         → ElementRuns most_bytes fe ce turns result (S.left input.old) (S.left input.new) (H.held hub.old) (H.held hub.new) (K.written out.old) (K.written out.new)
@@ -94,6 +131,8 @@ pub fn run<S: Source, K: Sink, H: Hub, R: Rounds>(
     match meant {
         Command::Show => show_status(show(alloc, input, out)),
         Command::Make => make_status(make(alloc, input, out)),
+        Command::World => play_status(world(alloc, input, out)),
+        Command::Gen { transactions } => gen_status(generate(alloc, transactions, out)),
         Command::Element { fe, ce, turns, .. } => {
             element_status(element(alloc, fe, ce, turns, input, out, hub))
         }
@@ -160,6 +199,29 @@ fn make_status(how: Result<Made, Stop>) -> u8
         Ok(Made::ReadFault) => READ_FAULT,
         Ok(Made::Refused) => REFUSED,
         Ok(Made::TooLong) => TOO_LONG,
+        Err(Stop::WriteFault) => WRITE_FAULT,
+        Err(Stop::NoMemory) => NO_MEMORY,
+    }
+}
+
+fn play_status(how: Result<PlayEnd, Stop>) -> u8
+    ensures { result ≡ play_status how }
+{
+    match how {
+        Ok(PlayEnd::Done) => DONE,
+        Ok(PlayEnd::ReadFault) => READ_FAULT,
+        Ok(PlayEnd::Refused) => REFUSED,
+        Ok(PlayEnd::TooLong) => TOO_LONG,
+        Err(Stop::WriteFault) => WRITE_FAULT,
+        Err(Stop::NoMemory) => NO_MEMORY,
+    }
+}
+
+fn gen_status(how: Result<(), Stop>) -> u8
+    ensures { result ≡ gen_status how }
+{
+    match how {
+        Ok(()) => DONE,
         Err(Stop::WriteFault) => WRITE_FAULT,
         Err(Stop::NoMemory) => NO_MEMORY,
     }

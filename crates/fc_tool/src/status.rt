@@ -15,7 +15,7 @@ pub const WRITE_FAULT: u8 = 3;
 /// The hub failed, or the rounds.
 pub const HUB_FAULT: u8 = 4;
 
-/// The input is no library, no plan, or no text of messages, that is taken.
+/// The input is no library, no plan, no script of which all steps can be made, or no text of messages, that is taken.
 pub const REFUSED: u8 = 5;
 
 /// The input has a frame that is no message, or ends within a frame.

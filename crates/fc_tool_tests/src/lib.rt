@@ -8,6 +8,8 @@ mod limits;
 #[cfg(test)]
 mod making;
 #[cfg(test)]
+mod playing;
+#[cfg(test)]
 mod running;
 #[cfg(test)]
 mod serving;

@@ -126,6 +126,15 @@ fn make_looks_at_so_many_bytes_and_no_more(rt: HostRuntime) -> Result<(), Fail> 
 }
 
 #[test]
+fn world_reads_no_more_bytes_than_are_looked_at(rt: HostRuntime) -> Result<(), Fail> {
+    let alloc = rt.alloc();
+    let (status, out) = tallied(alloc, "world", 67_108_865)?;
+    assert_eq!(rt; status, 12);
+    assert_eq!(rt; out.bytes, 0);
+    Ok(())
+}
+
+#[test]
 fn control_reads_no_more_bytes_than_are_looked_at(rt: HostRuntime) -> Result<(), Fail> {
     let alloc = rt.alloc();
     let (status, out) = tallied(alloc, "control 40000001 r 1 1 a", 67_108_865)?;

@@ -3,8 +3,8 @@ ghost use Rattle.std.specs.Prelude.{◌≡◌};
 ghost use Rattle.std.specs.List.{list_all};
 ghost use Rattle.fc_hub.specs.Hubs.{is_given};
 
-use crate::running::{failing, words};
-use fc_base::{Octets, SureSink, SureSource};
+use crate::running::{bytes_of, failing, words};
+use fc_base::{MemSink, MemSource, Octets, Sink, Source, SureSink, SureSource};
 use fc_hub::{Act, HubEvent, MemHub, SureHub, SureRounds};
 use fc_tool::run;
 use std::alloc::Global;
@@ -218,6 +218,39 @@ fn bytes_that_are_cut_anywhere_are_answered_alike(rt: HostRuntime) -> Result<(),
     Ok(())
 }
 
+// A query for the state of an element, component 7 of its FEObject, and the answer.
+const QUERY: &str =
+    "1004000D 40000001 00000002 00000000 00000007 00000000 1000001C 00000001 00000001 00070010 0110000C 00000001 00000007";
+
+const TOLD: &str =
+    "1014000F 00000002 40000001 00000000 00000007 00000000 10000024 00000001 00000001 00090018 01100014 00000001 00000007 01120005 02000000";
+
+// The events of a connection that is accepted and asked, where the query is cut at a place.
+fn asked_in_two(alloc: Global, cut: usize) -> Result<Vec<HubEvent>, Fail> {
+    let query = bytes_of(alloc, QUERY)?;
+    match query.as_slice().split_at_checked(cut) {
+        Some((front, back)) if front.len() > 0 => visit(alloc, &[&ACCEPTED, front, back]),
+        _ => visit(alloc, &[&ACCEPTED, &query]),
+    }
+}
+
+#[test]
+fn a_query_that_is_cut_anywhere_is_answered_alike(rt: HostRuntime) -> Result<(), Fail> {
+    let alloc = rt.alloc();
+    let told = bytes_of(alloc, TOLD)?;
+    // Cut in front of its first byte it is whole.
+    for cut in 0..52usize {
+        let events = asked_in_two(alloc, cut)?;
+        let mut wanted = setup(alloc)?;
+        wanted.push(sent(alloc, events.len() as u64, 1, &told)?)?;
+        let (status, text, hub) = ran(alloc, "element 2 40000001 a 1 9", Vec::new(alloc), events)?;
+        assert_eq!(rt; status, 0, "cut at {cut}");
+        assert_eq!(rt; text.as_slice(), REPORT.as_bytes(), "cut at {cut}");
+        assert_eq!(rt; hub.acts(), wanted.as_slice(), "cut at {cut}");
+    }
+    Ok(())
+}
+
 // The setup, the closing of a peer, and its setup where it has opened again.
 fn closed_and_opened(alloc: Global) -> Result<Vec<(u64, Act)>, Fail> {
     let mut acts = setup(alloc)?;
@@ -294,5 +327,66 @@ fn each_call_of_the_hub_fails_in_turn(rt: HostRuntime) -> Result<(), Fail> {
     }
     let ended = ran_over_failing(rt.alloc(), 9)?;
     assert!(rt; ended == (0, 3, REPORT.len()));
+    Ok(())
+}
+
+// The status over this input and output, where a control element comes and asks for an answer, and how many acts were done.
+fn over_ends<S: Source, K: Sink>(
+    alloc: Global,
+    input: &mut S,
+    out: &mut K,
+) -> Result<(u8, usize), Fail> {
+    let words = words(alloc, "element 2 40000001 a 1 9")?;
+    let events = greeting(alloc)?;
+    if !are_given(events.as_slice()) {
+        return Err(Fail::from("no hub tells these events"));
+    }
+    let mut hub = SureHub::new(alloc, events);
+    let mut rounds = SureRounds::new(1);
+    let status = run(alloc, words.as_slice(), input, out, &mut hub, &mut rounds);
+    Ok((status, hub.acts().len()))
+}
+
+// The status where a call of the source fails, how many acts were done and how much was written.
+fn from_failing(alloc: Global, call: u64) -> Result<(u8, usize, usize), Fail> {
+    let library = Vec::from_slice(alloc, b"# a library of none")?;
+    let mut input = MemSource::new(library, 10, failing(alloc, call)?);
+    let mut out = SureSink::new(alloc);
+    let (status, acts) = over_ends(alloc, &mut input, &mut out)?;
+    Ok((status, acts, out.bytes().len()))
+}
+
+// The same where a call of the sink fails.
+fn to_failing(alloc: Global, call: u64) -> Result<(u8, usize, usize), Fail> {
+    let mut input = SureSource::new(Vec::new(alloc), 1);
+    let mut out = MemSink::new(alloc, failing(alloc, call)?);
+    let (status, acts) = over_ends(alloc, &mut input, &mut out)?;
+    Ok((status, acts, out.bytes().len()))
+}
+
+#[test]
+fn each_call_of_the_source_fails_in_turn(rt: HostRuntime) -> Result<(), Fail> {
+    // Two pieces of the library and the end are three reads.
+    for (call, ended) in [
+        (1, (2, 0, 0)),
+        (2, (2, 0, 0)),
+        (3, (2, 0, 0)),
+        (4, (0, 2, REPORT.len())),
+    ] {
+        assert!(rt; from_failing(rt.alloc(), call)? == ended, "at {call}");
+    }
+    Ok(())
+}
+
+#[test]
+fn each_call_of_the_sink_fails_in_turn(rt: HostRuntime) -> Result<(), Fail> {
+    // The report is one write. Then comes the flush. All that is to be done was done before.
+    for (call, ended) in [
+        (1, (3, 2, 0)),
+        (2, (3, 2, REPORT.len())),
+        (3, (0, 2, REPORT.len())),
+    ] {
+        assert!(rt; to_failing(rt.alloc(), call)? == ended, "at {call}");
+    }
     Ok(())
 }

@@ -1,6 +1,6 @@
 // The command `show`, through `run`.
-use crate::running::{beats, failing, lines, run_without_hub, shown, words};
-use fc_base::{MemSink, MemSource, SureSink, SureSource};
+use crate::running::{BEAT, beats, failing, lines, run_without_hub, shown, words};
+use fc_base::{MemSink, MemSource, Source, SureSink, SureSource};
 use std::alloc::Global;
 use std::test::Fail;
 
@@ -84,6 +84,21 @@ fn each_call_of_the_sink_fails_in_turn(rt: HostRuntime) -> Result<(), Fail> {
         let wanted = lines(alloc, whole, "")?;
         assert_eq!(rt; text.as_slice(), wanted.as_bytes(), "at {call}");
     }
+    Ok(())
+}
+
+#[test]
+fn what_stands_behind_a_fault_of_the_sink_is_not_read(rt: HostRuntime) -> Result<(), Fail> {
+    let alloc = rt.alloc();
+    let words = words(alloc, "show")?;
+    let mut input = SureSource::new(beats(alloc, 2_000)?, 24);
+    let mut out = MemSink::new(alloc, failing(alloc, 1)?);
+    let status = run_without_hub(alloc, words.as_slice(), &mut input, &mut out);
+    assert_eq!(rt; status, 3);
+    assert_eq!(rt; out.bytes().len(), 0);
+    let mut piece = [0u8; 24];
+    assert_eq!(rt; input.read(&mut piece), Ok(24));
+    assert_eq!(rt; piece, BEAT);
     Ok(())
 }
 

@@ -25,4 +25,4 @@ pub use opening::first;
 pub use read::read_full;
 pub use sparse::read_sparse;
 pub use value::Value;
-pub use write::write_full;
+pub use write::{write_full, write_full_entries};

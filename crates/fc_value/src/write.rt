@@ -4,6 +4,7 @@ ghost use Rattle.std.specs.List.{flat_map};
 ghost use Rattle.fc_value.specs.Writing.{full_bytes, inside_bytes, inside_bytes_at, bare_bytes, full_data_tlv, truth_layer, number_layer, group_layer, table_layer, each_bytes, entry_bytes};
 ghost use Rattle.fc_wire.specs.Bytes.{u32_bytes};
 ghost use Rattle.fc_value.specs.declared.value.Value.{out-Value};
+ghost use Rattle.fc_value.specs.declared.value.Value.TheVariants as values;
 
 use crate::Value;
 use crate::number::write_number;
@@ -21,6 +22,33 @@ pub fn write_full(ty: &Ty, value: &Value, into: &mut Vec<u8>) -> Result<(), Memo
     write_whole(ty, value, &mut apart)?;
     into.extend_from_slice(&apart)?;
     Ok(())
+}
+
+/// Appends the full form of an array with these entries, by rising subscript, where the type is that of an array. After an `Err`
+/// nothing has changed.
+pub fn write_full_entries(
+    ty: &Ty,
+    entries: &[(u32, Value)],
+    into: &mut Vec<u8>,
+) -> Result<(), Memory>
+    ensures ok { OnOk result (into.new.items ≡ into.old.items ++ full_bytes ty.now (values.Table entries.now)) }
+    ensures err { OnErr result (into.new.items ≡ into.old.items) }
+{
+    let mut apart = Vec::new(*into.allocator());
+    write_whole_entries(ty, entries, &mut apart)?;
+    into.extend_from_slice(&apart)?;
+    Ok(())
+}
+
+// Appends the full form of an array that stands by itself.
+#[tactic(auto, unfolding(crate::specs::Writing::inside_bytes))]
+fn write_whole_entries(ty: &Ty, entries: &[(u32, Value)], into: &mut Vec<u8>) -> Result<(), Memory>
+    ensures { OnOk result (into.new.items ≡ into.old.items ++ full_bytes ty.now (values.Table entries.now)) }
+{
+    match ty {
+        Ty::Array { entry, .. } => write_entries(entry.get(), entries, into),
+        _ => Ok(()),
+    }
 }
 
 /// Appends the full form of a value that stands by itself.

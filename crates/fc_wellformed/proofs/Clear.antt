@@ -39,7 +39,7 @@ get_all P (y ∷ xs) zero x h e = let same : y ≡ x = cc in subst P same h.0
 get_all P (y ∷ xs) (suc i) x h e = get_all P xs i x h.1 e
 
 -- no selects, or a change
-abbrev MayChange : List Select → Type 0
+abbrev pub MayChange : List Select → Type 0
 MayChange selects = (selects ≡ []) ⊎ IsChange selects
 
 selects_may : (o : Option (List Select)) → ((selects : List Select) → o ≡ Some selects → IsChange selects) → MayChange (selects_of o)
@@ -58,14 +58,14 @@ in_may : (o : Option (List Part)) (p : ℕ) → ((parts : List Part) → o ≡ S
 in_may None p h = tt
 in_may (Some parts) p h = changes_may p parts (h parts refl)
 
-change_may : (life : Life) (x : Txn) (p i : ℕ) → KeepsChanges life → MayChange (change_at life.plans x p i)
+pub change_may : (life : Life) (x : Txn) (p i : ℕ) → KeepsChanges life → MayChange (change_at life.plans x p i)
 change_may life x p i keeps =
     let own = in_may (numbered life.plans x.number) p (λ parts e. get_all (λ (parts : List Part). AllByRecursion HasChanges parts) life.plans (x.number - 1) parts keeps.plans e) in
     selects_may (numbered (changes_in (numbered life.plans x.number) p) i) (λ selects e. get_all IsChange (changes_in (numbered life.plans x.number) p) (i - 1) selects own e)
 
 -- ---- what is a change fits behind the name of a transaction
 
-short_of : (a b : Bool) → (if a then Some fault.Operation else (if b then None else Some fault.TooLong)) ≡ None → b ≡ true
+pub short_of : (a b : Bool) → (if a then Some fault.Operation else (if b then None else Some fault.TooLong)) ≡ None → b ≡ true
 short_of true b e = cc
 short_of false true e = refl
 short_of false false e = cc

@@ -4,11 +4,11 @@ use Rattle.std.specs.Str.{bytes_eq, str_to_ascii_uppercase}
 use Rattle.std.proofs.lemmas.List.{drop-map, take-map}
 use Rattle.std.proofs.lemmas.Option.{same_Some}
 use Rattle.std.proofs.lemmas.Slice.Eq.{bytes_eq-Decides}
-use Rattle.fc_words.specs.Commands.{◌>>=◌, Gives, IsControl, IsElement, alone, are_plain, are_texts, command_of, control, control_of, element, element_of, is_dashed, named_first, nonempty}
+use Rattle.fc_words.specs.Commands.{◌>>=◌, Gives, IsControl, IsElement, IsGen, alone, are_plain, are_texts, command_of, control, control_of, element, element_of, gen, gen_of, is_dashed, named_first, nonempty}
 use Rattle.fc_words.specs.Numbers.{ce_of, decimal_up_to}
 use Rattle.fc_words.specs.declared.commands.Command.{Command}
 use Rattle.fc_words.specs.declared.commands.WordFault.{WordFault}
-use Rattle.fc_words.specs.declared.commands.Command.TheVariants.{Control, Element, Make, Show}
+use Rattle.fc_words.specs.declared.commands.Command.TheVariants.{Control, Element, Gen, Make, Show, World}
 use Rattle.fc_words.proofs.Decimals.{decimal_sound, decimal_complete, plain_decimal}
 use Rattle.fc_words.proofs.Hexadecimals.{ce_sound, ce_complete, ce_digits, not_dashed}
 use Rattle.fc_words.proofs.Straight.{plain_word}
@@ -183,15 +183,33 @@ control_words result words more a b c d e rest is given =
     let left = ap (λ l. control_of a b c d (e ∷ l)) (drop-map string_bytes 5 words ∙ ap (map string_bytes) (sym rest)) in
     subst (Gives result) (sym (five_and_more a b c d e (map string_bytes words) five ∙ left)) given
 
+-- ---- the value of `gen`
+record Counted (rest : List (List ℕ)) (x : Command) : Type 0 where
+  pub word : List ℕ
+  pub n : ℕ
+  pub all : rest ≡ word ∷ []
+  pub is : x ≡ Gen n
+  pub spelled : decimal_up_to 1000 word ≡ Some n
+
+counted_of : (rest : List (List ℕ)) (x : Command) → gen rest ≡ Some x → Counted rest x
+counted_of (word ∷ []) x e =
+    bound (decimal_up_to 1000 word) _ x e λ n is_n e₁.
+    record { word = word; n = n; all = refl; is = sym (same_Some _ _ e₁); spelled = is_n }
+counted_of [] x e = cc
+counted_of (a ∷ b ∷ more) x e = cc
+
 -- the command that a name has
-by_name : {P : Type 0} (s m e k : Bool) (rest : List (List ℕ)) (x : Command)
-    → (if s then alone Show rest else if m then alone Make rest else if e then element rest else if k then control rest else None) ≡ Some x
-    → (s ≡ true → alone Show rest ≡ Some x → P) → (m ≡ true → alone Make rest ≡ Some x → P) → (e ≡ true → element rest ≡ Some x → P) → (k ≡ true → control rest ≡ Some x → P) → P
-by_name true m e k rest x h shows makes elements controls = shows refl h
-by_name false true e k rest x h shows makes elements controls = makes refl h
-by_name false false true k rest x h shows makes elements controls = elements refl h
-by_name false false false true rest x h shows makes elements controls = controls refl h
-by_name false false false false rest x h shows makes elements controls = cc
+by_name : {P : Type 0} (s m w g e k : Bool) (rest : List (List ℕ)) (x : Command)
+    → (if s then alone Show rest else if m then alone Make rest else if w then alone World rest else if g then gen rest else if e then element rest else if k then control rest else None) ≡ Some x
+    → (s ≡ true → alone Show rest ≡ Some x → P) → (m ≡ true → alone Make rest ≡ Some x → P) → (w ≡ true → alone World rest ≡ Some x → P)
+    → (g ≡ true → gen rest ≡ Some x → P) → (e ≡ true → element rest ≡ Some x → P) → (k ≡ true → control rest ≡ Some x → P) → P
+by_name true m w g e k rest x h shows makes worlds gens elements controls = shows refl h
+by_name false true w g e k rest x h shows makes worlds gens elements controls = makes refl h
+by_name false false true g e k rest x h shows makes worlds gens elements controls = worlds refl h
+by_name false false false true e k rest x h shows makes worlds gens elements controls = gens refl h
+by_name false false false false true k rest x h shows makes worlds gens elements controls = elements refl h
+by_name false false false false false true rest x h shows makes worlds gens elements controls = controls refl h
+by_name false false false false false false rest x h shows makes worlds gens elements controls = cc
 
 -- the commands that stand alone are told apart
 shown_is_made : Show ≡ Make → ⊥
@@ -200,14 +218,41 @@ shown_is_made h = cc
 made_is_shown : Make ≡ Show → ⊥
 made_is_shown h = cc
 
+shown_is_world : Show ≡ World → ⊥
+shown_is_world h = cc
+
+made_is_world : Make ≡ World → ⊥
+made_is_world h = cc
+
+shown_is_gen : {n : ℕ} → Show ≡ Gen n → ⊥
+shown_is_gen h = cc
+
+made_is_gen : {n : ℕ} → Make ≡ Gen n → ⊥
+made_is_gen h = cc
+
+world_is_gen : {n : ℕ} → World ≡ Gen n → ⊥
+world_is_gen h = cc
+
+gen_is_element : {m f c n t : ℕ} {a : List ℕ} → Gen m ≡ Element f c a n t → ⊥
+gen_is_element h = cc
+
+gen_is_control : {m c n t : ℕ} {r : List ℕ} {ls : List (List ℕ)} → Gen m ≡ Control c r n t ls → ⊥
+gen_is_control h = cc
+
 shown_is_element : {f c n t : ℕ} {a : List ℕ} → Show ≡ Element f c a n t → ⊥
 shown_is_element h = cc
+
+world_is_element : {f c n t : ℕ} {a : List ℕ} → World ≡ Element f c a n t → ⊥
+world_is_element h = cc
 
 made_is_element : {f c n t : ℕ} {a : List ℕ} → Make ≡ Element f c a n t → ⊥
 made_is_element h = cc
 
 shown_is_control : {c n t : ℕ} {r : List ℕ} {ls : List (List ℕ)} → Show ≡ Control c r n t ls → ⊥
 shown_is_control h = cc
+
+world_is_control : {c n t : ℕ} {r : List ℕ} {ls : List (List ℕ)} → World ≡ Control c r n t ls → ⊥
+world_is_control h = cc
 
 made_is_control : {c n t : ℕ} {r : List ℕ} {ls : List (List ℕ)} → Make ≡ Control c r n t ls → ⊥
 made_is_control h = cc
@@ -225,20 +270,35 @@ meant words x e = by_plain (are_plain words) e
 show_sound : (words : List (List ℕ)) → named_first words ≡ Some Show → words ≡ codes "show" ∷ []
 show_sound [] e = cc
 show_sound (name ∷ rest) e =
-    by_name (bytes_eq name (codes "show")) (bytes_eq name (codes "make")) (bytes_eq name (codes "element")) (bytes_eq name (codes "control")) rest Show e
+    by_name (bytes_eq name (codes "show")) (bytes_eq name (codes "make")) (bytes_eq name (codes "world")) (bytes_eq name (codes "gen")) (bytes_eq name (codes "element")) (bytes_eq name (codes "control")) rest Show e
     (λ test h. let (none, _) = alone_is rest Show Show h in rw ((bytes_eq-Decides name (codes "show")).0 test, none) refl)
     (λ test h. absurd (shown_is_made (alone_is rest Make Show h).1))
+    (λ test h. absurd (shown_is_world (alone_is rest World Show h).1))
+    (λ test h. absurd (shown_is_gen (counted_of rest Show h).is))
     (λ test h. absurd (shown_is_element (five_of rest Show h).values.is))
     (λ test h. absurd (shown_is_control (many_of rest Show h).values.is))
 
 make_sound : (words : List (List ℕ)) → named_first words ≡ Some Make → words ≡ codes "make" ∷ []
 make_sound [] e = cc
 make_sound (name ∷ rest) e =
-    by_name (bytes_eq name (codes "show")) (bytes_eq name (codes "make")) (bytes_eq name (codes "element")) (bytes_eq name (codes "control")) rest Make e
+    by_name (bytes_eq name (codes "show")) (bytes_eq name (codes "make")) (bytes_eq name (codes "world")) (bytes_eq name (codes "gen")) (bytes_eq name (codes "element")) (bytes_eq name (codes "control")) rest Make e
     (λ test h. absurd (made_is_shown (alone_is rest Show Make h).1))
     (λ test h. let (none, _) = alone_is rest Make Make h in rw ((bytes_eq-Decides name (codes "make")).0 test, none) refl)
+    (λ test h. absurd (made_is_world (alone_is rest World Make h).1))
+    (λ test h. absurd (made_is_gen (counted_of rest Make h).is))
     (λ test h. absurd (made_is_element (five_of rest Make h).values.is))
     (λ test h. absurd (made_is_control (many_of rest Make h).values.is))
+
+world_sound : (words : List (List ℕ)) → named_first words ≡ Some World → words ≡ codes "world" ∷ []
+world_sound [] e = cc
+world_sound (name ∷ rest) e =
+    by_name (bytes_eq name (codes "show")) (bytes_eq name (codes "make")) (bytes_eq name (codes "world")) (bytes_eq name (codes "gen")) (bytes_eq name (codes "element")) (bytes_eq name (codes "control")) rest World e
+    (λ test h. absurd (shown_is_world (sym (alone_is rest Show World h).1)))
+    (λ test h. absurd (made_is_world (sym (alone_is rest Make World h).1)))
+    (λ test h. let (none, _) = alone_is rest World World h in rw ((bytes_eq-Decides name (codes "world")).0 test, none) refl)
+    (λ test h. absurd (world_is_gen (counted_of rest World h).is))
+    (λ test h. absurd (world_is_element (five_of rest World h).values.is))
+    (λ test h. absurd (world_is_control (many_of rest World h).values.is))
 
 pub words_of_show : (words : List (List ℕ)) → command_of words ≡ Some Show ↔ words ≡ codes "show" ∷ []
 words_of_show words = (λ e. show_sound words (meant words Show e).1, λ e. ap command_of e)
@@ -246,12 +306,46 @@ words_of_show words = (λ e. show_sound words (meant words Show e).1, λ e. ap c
 pub words_of_make : (words : List (List ℕ)) → command_of words ≡ Some Make ↔ words ≡ codes "make" ∷ []
 words_of_make words = (λ e. make_sound words (meant words Make e).1, λ e. ap command_of e)
 
+gen_sound : (words : List (List ℕ)) (n : ℕ) → named_first words ≡ Some (Gen n) → IsGen words n
+gen_sound [] n e = cc
+gen_sound (name ∷ rest) n e =
+    by_name (bytes_eq name (codes "show")) (bytes_eq name (codes "make")) (bytes_eq name (codes "world")) (bytes_eq name (codes "gen")) (bytes_eq name (codes "element")) (bytes_eq name (codes "control")) rest (Gen n) e
+    (λ test h. absurd (shown_is_gen (sym (alone_is rest Show _ h).1)))
+    (λ test h. absurd (made_is_gen (sym (alone_is rest Make _ h).1)))
+    (λ test h. absurd (world_is_gen (sym (alone_is rest World _ h).1)))
+    (λ test h. from_count ((bytes_eq-Decides name (codes "gen")).0 test) (counted_of rest _ h))
+    (λ test h. absurd (gen_is_element (five_of rest _ h).values.is))
+    (λ test h. absurd (gen_is_control (many_of rest _ h).values.is))
+  where
+    from_count : name ≡ codes "gen" → Counted rest (Gen n) → IsGen (name ∷ rest) n
+    from_count is_name counted =
+        let same : counted.n ≡ n = cc in
+        let d = decimal_sound 1000 n counted.word (counted.spelled ∙ ap Some same) in
+        record { all = rw (is_name, counted.all, d.0) refl; range = (omega (arith, d.1.0), omega (arith, d.1.1)) }
+
+gen_complete : (words : List (List ℕ)) (n : ℕ) → IsGen words n → command_of words ≡ Some (Gen n)
+gen_complete words n w =
+    let d = decimal_complete 1000 n (decimal n) (omega arith) (refl, (omega (arith, w.range.0), omega (arith, w.range.1))) in
+    let plain_count = plain_decimal n (decimal n) w.range.0 (omega (arith, w.range.1)) refl in
+    let given : List (List ℕ) = codes "gen" ∷ decimal n ∷ [] in
+    let plain : are_plain given ≡ true = rw plain_count refl in
+    let value : gen_of (decimal n) ≡ Some (Gen n) = rw d refl in
+    ap command_of w.all ∙ ap (λ (b : Bool). if b then named_first given else None) plain ∙ value
+
+pub words_of_gen : (words : List (List ℕ)) (n : ℕ) → command_of words ≡ Some (Gen n) ↔ IsGen words n
+words_of_gen words n = (λ e. gen_sound words n (meant words _ e).1, gen_complete words n)
+
+pub words_of_world : (words : List (List ℕ)) → command_of words ≡ Some World ↔ words ≡ codes "world" ∷ []
+words_of_world words = (λ e. world_sound words (meant words World e).1, λ e. ap command_of e)
+
 element_sound : (words : List (List ℕ)) (fe ce : ℕ) (address : List ℕ) (connections turns : ℕ) → are_plain words ≡ true → named_first words ≡ Some (Element fe ce address connections turns) → IsElement words fe ce address connections turns
 element_sound [] fe ce address connections turns plain e = cc
 element_sound (name ∷ rest) fe ce address connections turns plain e =
-    by_name (bytes_eq name (codes "show")) (bytes_eq name (codes "make")) (bytes_eq name (codes "element")) (bytes_eq name (codes "control")) rest (Element fe ce address connections turns) e
+    by_name (bytes_eq name (codes "show")) (bytes_eq name (codes "make")) (bytes_eq name (codes "world")) (bytes_eq name (codes "gen")) (bytes_eq name (codes "element")) (bytes_eq name (codes "control")) rest (Element fe ce address connections turns) e
     (λ test h. absurd (shown_is_element (sym (alone_is rest Show _ h).1)))
     (λ test h. absurd (made_is_element (sym (alone_is rest Make _ h).1)))
+    (λ test h. absurd (world_is_element (sym (alone_is rest World _ h).1)))
+    (λ test h. absurd (gen_is_element (sym (counted_of rest _ h).is)))
     (λ test h. from_five ((bytes_eq-Decides name (codes "element")).0 test) (five_of rest _ h))
     (λ test h. absurd (element_is_control (many_of rest _ h).values.is))
   where
@@ -306,9 +400,11 @@ control_sound : (words : List (List ℕ)) (ce : ℕ) (rounds : List ℕ) (connec
     → named_first words ≡ Some (Control ce rounds connections turns addresses) → IsControl words ce rounds connections turns addresses
 control_sound [] ce rounds connections turns addresses plain e = cc
 control_sound (name ∷ rest) ce rounds connections turns addresses plain e =
-    by_name (bytes_eq name (codes "show")) (bytes_eq name (codes "make")) (bytes_eq name (codes "element")) (bytes_eq name (codes "control")) rest (Control ce rounds connections turns addresses) e
+    by_name (bytes_eq name (codes "show")) (bytes_eq name (codes "make")) (bytes_eq name (codes "world")) (bytes_eq name (codes "gen")) (bytes_eq name (codes "element")) (bytes_eq name (codes "control")) rest (Control ce rounds connections turns addresses) e
     (λ test h. absurd (shown_is_control (sym (alone_is rest Show _ h).1)))
     (λ test h. absurd (made_is_control (sym (alone_is rest Make _ h).1)))
+    (λ test h. absurd (world_is_control (sym (alone_is rest World _ h).1)))
+    (λ test h. absurd (gen_is_control (sym (counted_of rest _ h).is)))
     (λ test h. absurd (element_is_control (sym (five_of rest _ h).values.is)))
     (λ test h. from_many ((bytes_eq-Decides name (codes "control")).0 test) (many_of rest _ h))
   where

@@ -1,12 +1,12 @@
 -- What the words of a command line mean (this profile's own).
-use Rattle.std.specs.Prelude.{◌≡◌, ◌≢◌, ◌<◌, ◌^◌, ℕ, ◌==◌, not, Bool, true, false, List, [], ◌∷◌, codes, decimal, Option, Some, None, Result, Ok, Err, if◌then◌else◌}
+use Rattle.std.specs.Prelude.{◌≡◌, ◌≢◌, ◌<◌, ◌≤◌, ◌^◌, ℕ, ◌==◌, not, Bool, true, false, List, [], ◌∷◌, codes, decimal, Option, Some, None, Result, Ok, Err, if◌then◌else◌}
 use Rattle.std.specs.List.{list_all}
 use Rattle.std.specs.Str.{bytes_eq, str_to_ascii_uppercase}
 use Rattle.fc_base.specs.Hex.{hex}
 use Rattle.fc_base.specs.Ids.{IsFe, IsCe}
 use Rattle.fc_words.specs.Numbers.{decimal_up_to, ce_of}
 use Rattle.fc_words.specs.declared.commands.Command.{Command}
-use Rattle.fc_words.specs.declared.commands.Command.TheVariants.{Control, Element, Make, Show}
+use Rattle.fc_words.specs.declared.commands.Command.TheVariants.{Control, Element, Gen, Make, Show, World}
 use Rattle.fc_words.specs.declared.commands.WordFault.{WordFault}
 use Rattle.fc_words.specs.declared.commands.WordFault.TheVariants.{NoCommand, Memory}
 
@@ -43,6 +43,15 @@ nonempty (b ∷ bs) = Some (b ∷ bs)
 abbrev pub alone : Command → List (List ℕ) → Option Command
 alone command [] = Some command
 alone command _ = None
+
+-- The value of `gen`: how many transactions there are, from 1 to 1,000 in decimal.
+abbrev pub gen_of : List ℕ → Option Command
+gen_of count = decimal_up_to 1000 count >>= λ n. Some (Gen n)
+
+-- `gen` has one word after it
+abbrev pub gen : List (List ℕ) → Option Command
+gen (count ∷ []) = gen_of count
+gen _ = None
 
 -- The values of `element`: FE is a forwarding element's ID in decimal, CE a control element's ID in hexadecimal, ADDRESS any
 -- text but the empty one, CONNECTIONS and TURNS are counts from 1 in decimal.
@@ -88,6 +97,8 @@ abbrev pub named : List ℕ → List (List ℕ) → Option Command
 named name words =
     if bytes_eq name (codes "show") then alone Show words
     else if bytes_eq name (codes "make") then alone Make words
+    else if bytes_eq name (codes "world") then alone World words
+    else if bytes_eq name (codes "gen") then gen words
     else if bytes_eq name (codes "element") then element words
     else if bytes_eq name (codes "control") then control words
     else None
@@ -99,6 +110,11 @@ named_first (name ∷ words) = named name words
 -- The command that words mean: the first names it, and none begins with '-'.
 abbrev pub command_of : List (List ℕ) → Option Command
 command_of words = if are_plain words then named_first words else None
+
+-- Words that mean `gen` with this number, which is written as it stands.
+pub record IsGen (words : List (List ℕ)) (n : ℕ) : Type 0 where
+  pub all : words ≡ codes "gen" ∷ decimal n ∷ []
+  pub range : (0 < n) × (n ≤ 1000)
 
 -- Words that mean `element` with these values: the numbers are written as they stand, the ID of the control element in digits
 -- of either case.

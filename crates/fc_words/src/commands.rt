@@ -11,6 +11,13 @@ pub enum Command {
     Show,
     /// Writes each message of the text that comes in as bytes.
     Make,
+    /// Plays the script of a whole network element that comes in, and writes the report.
+    World,
+    /// Makes a large run, and writes a summary of it.
+    Gen {
+        /// How many transactions it has, from 1 to 1,000.
+        transactions: u32,
+    },
     /// Runs a forwarding element.
     Element {
         /// The element's own ID.

@@ -3,9 +3,9 @@ ghost use Rattle.std.specs.Prelude.{◌≡◌, ◌<◌, ◌≤◌, ◌^◌, ◌�
 ghost use Rattle.std.specs.Str.{str_to_ascii_uppercase};
 ghost use Rattle.fc_base.specs.Hex.{hex};
 ghost use Rattle.fc_base.specs.Ids.{IsCe};
-ghost use Rattle.fc_words.specs.Commands.{IsControl, IsElement, command_of};
+ghost use Rattle.fc_words.specs.Commands.{IsControl, IsElement, IsGen, command_of};
 ghost use Rattle.fc_words.specs.Numbers.{decimal_up_to, ce_of};
-ghost use Rattle.fc_words.specs.declared.commands.Command.TheVariants.{Control, Show, Make, Element};
+ghost use Rattle.fc_words.specs.declared.commands.Command.TheVariants.{Control, Gen, Show, Make, World, Element};
 
 /// A word spells a number in decimal exactly where it is what is written for that number, and the number is in its range.
 pub fn decimal_words()
@@ -27,6 +27,16 @@ pub fn words_of_show()
 /// The one word `make` means `make`, and no other words do.
 pub fn words_of_make()
     ensures { (words : List (List ℕ)) → command_of words ≡ Some Make ↔ words ≡ codes "make" ∷ [] }
+{}
+
+/// The one word `world` means `world`, and no other words do.
+pub fn words_of_world()
+    ensures { (words : List (List ℕ)) → command_of words ≡ Some World ↔ words ≡ codes "world" ∷ [] }
+{}
+
+/// Words mean `gen` with a number exactly where they are its name and what is written for the number, and it is from 1 to 1,000.
+pub fn words_of_gen()
+    ensures { (words : List (List ℕ)) (n : ℕ) → command_of words ≡ Some (Gen n) ↔ IsGen words n }
 {}
 
 /// Words mean `element` with some values exactly where they are its name and what is written for these values.

@@ -4,6 +4,7 @@
 mod commands;
 mod control;
 mod element;
+mod generate;
 mod laws;
 mod positionals;
 mod reading;
@@ -11,7 +12,7 @@ mod values;
 
 pub use commands::{Command, WordFault};
 pub use laws::{
-    controller_words, decimal_words, words_of_control, words_of_element, words_of_make,
-    words_of_show,
+    controller_words, decimal_words, words_of_control, words_of_element, words_of_gen,
+    words_of_make, words_of_show, words_of_world,
 };
 pub use reading::command;

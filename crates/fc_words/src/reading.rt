@@ -7,10 +7,11 @@ ghost use Rattle.fc_words.specs.Commands as spec;
 use crate::commands::{Command, WordFault};
 use crate::control::control;
 use crate::element::element;
+use crate::generate::generate;
 use std::alloc::Global;
 
-/// The command that the words of a command line mean: `show`, `make`, `element FE CE ADDRESS CONNECTIONS TURNS`, or `control CE
-/// ROUNDSFILE CONNECTIONS TURNS ADDRESS..` with an address at least. A word that begins with `-` makes the words no command.
+/// The command that the words of a command line mean: `show`, `make`, `world`, `gen TRANSACTIONS`, `element FE CE ADDRESS CONNECTIONS TURNS`, or
+/// `control CE ROUNDSFILE CONNECTIONS TURNS ADDRESS..` with an address at least. A word that begins with `-` makes the words no command.
 pub fn command(alloc: Global, words: &[String]) -> Result<Command, WordFault>
     ensures exact { Gives result (spec.command_of (map string_bytes words.now)) }
 {
@@ -53,6 +54,10 @@ fn named(alloc: Global, name: &str, words: &[String]) -> Result<Command, WordFau
         alone(Command::Show, words)
     } else if name == "make" {
         alone(Command::Make, words)
+    } else if name == "world" {
+        alone(Command::World, words)
+    } else if name == "gen" {
+        generate(words)
     } else if name == "element" {
         element(alloc, words)
     } else if name == "control" {

@@ -19,6 +19,13 @@ pub(crate) fn count(word: &str) -> Option<u32>
     decimal_up_to(4_294_967_295, word)
 }
 
+/// A number of transactions from 1 to 1,000, in decimal.
+pub(crate) fn transactions(word: &str) -> Option<u32>
+    ensures { result ≡ spec.decimal_up_to 1000 word.now }
+{
+    decimal_up_to(1000, word)
+}
+
 // A number from 1 to `most` in decimal, without a sign or leading zeros.
 fn decimal_up_to(most: u32, word: &str) -> Option<u32>
     ensures { result ≡ spec.decimal_up_to most word.now }

@@ -1,0 +1,13 @@
+pub mod Acting
+pub mod Asking
+pub mod Batches
+pub mod Calling
+pub mod Clearing
+pub mod Counting
+pub mod Places
+pub mod Planning
+pub mod Playing
+pub mod Ruling
+pub mod Running
+pub mod Staging
+pub mod Telling

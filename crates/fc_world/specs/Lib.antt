@@ -1,4 +1,10 @@
-pub mod Lookups
-pub mod Stages
-pub mod WorldSteps
 pub mod Worlds
+pub mod Lookups
+pub mod Turns
+pub mod WorldSteps
+pub mod Settings
+pub mod Played
+pub mod Stages
+pub mod Answering
+pub mod Reports
+pub mod Trails

@@ -1,5 +1,5 @@
 -- What of a world, or of its script, has a name. This profile's own.
-use Rattle.std.specs.Prelude.{ℕ, zero, suc, ◌==◌, Bool, true, false, List, [], ◌∷◌, map, slice_get, Option, Some, None, option_map, is_some, if◌then◌else◌}
+use Rattle.std.specs.Prelude.{ℕ, zero, suc, ◌==◌, Bool, List, [], ◌∷◌, map, slice_get, Option, Some, None, option_map, is_some, if◌then◌else◌}
 use Rattle.std.specs.Str.{bytes_eq}
 use Rattle.fc_documents.specs.declared.transaction.PlanTxn.{PlanTxn}
 use Rattle.fc_element.specs.ElementState.{ElementState}

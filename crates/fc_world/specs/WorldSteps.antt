@@ -1,7 +1,7 @@
 -- What happens in a network element step by step: a connection is opened, a message arrives, time passes, a control element starts, stops or is
 -- asked to do something, an element starts again. Which message arrives, and when, and how often, is the network's to choose; one that no step
 -- names is lost. This profile's own.
-use Rattle.std.specs.Prelude.{ℕ, ◌==◌, ◌&&◌, ◌||◌, not, nat_lt, Bool, true, false, List, [], ◌∷◌, ◌++◌, length, Option, Some, None, is_none, is_some}
+use Rattle.std.specs.Prelude.{ℕ, ◌==◌, ◌&&◌, ◌||◌, not, nat_lt, Bool, true, false, List, [], ◌∷◌, ◌++◌, length, Option, Some, None, is_some}
 use Rattle.fc_base.specs.Ids.{Txn}
 use Rattle.fc_asks.specs.Tables.{placed}
 use Rattle.fc_asks.specs.declared.life.Life.{Life}
@@ -17,7 +17,6 @@ use Rattle.fc_jobs.specs.Sending.{spelled}
 use Rattle.fc_jobs.specs.declared.sending.CeOut.{CeOut}
 use Rattle.fc_machine.specs.Trace.{Fact}
 use Rattle.fc_master.specs.Steps.{said, stepped}
-use Rattle.fc_master.specs.declared.input.CeIn.{CeIn}
 use Rattle.fc_master.specs.declared.input.CeIn.TheVariants as ce_in
 use Rattle.fc_msg.specs.declared.message.Message.{Message}
 use Rattle.fc_path.specs.declared.oper.Select.{Select}

@@ -1,4 +1,9 @@
-// Why steps can't be made.
+// Why steps can't be made, and why calls in them are refused.
+ghost use Rattle.std.specs.Prelude.{◌≡◌};
+
+use fc_base::Memory;
+use fc_master::{BeginFault, ForgetFault, GiveUpFault};
+use std::alloc::AllocError;
 
 /// Why a step can't be made. Nothing changes then.
 #[derive(Clone, Copy, Debug, PartialEq, Eq)]
@@ -16,4 +21,35 @@ pub enum WorldFault {
     Running,
     /// Memory was wanting.
     Memory,
+}
+
+impl From<Memory> for WorldFault {
+    ghost use Rattle.fc_world.specs.declared.faults.WorldFault.TheVariants.{Memory};
+
+    ghost from_gives = { λ _ e. e ≡ Memory };
+
+    fn from(_: Memory) -> Self {
+        WorldFault::Memory
+    }
+}
+
+impl From<AllocError> for WorldFault {
+    ghost use Rattle.fc_world.specs.declared.faults.WorldFault.TheVariants.{Memory};
+
+    ghost from_gives = { λ _ e. e ≡ Memory };
+
+    fn from(_: AllocError) -> Self {
+        WorldFault::Memory
+    }
+}
+
+/// Why a control element refuses what a step asks of it. None of these is want of memory.
+#[derive(Clone, Copy, Debug, PartialEq, Eq)]
+pub enum Refused {
+    /// A transaction is not begun, or a plain change not sent.
+    Begin(BeginFault),
+    /// A transaction is not given up.
+    GiveUp(GiveUpFault),
+    /// The elements may not forget.
+    Forget(ForgetFault),
 }

@@ -1,13 +1,21 @@
-//! A network element as a whole, as definitions: forwarding elements and control elements, which are the very types that the commands `element` and
-//! `control` run, all messages that were ever sent between them, and what happens step by step (`specs/`).
+//! A network element as a whole, run step by step from a script: forwarding elements and control elements, which are the very types that the
+//! commands `element` and `control` run, and all messages that were ever sent between them.
 #![tactic(auto)]
 
+mod controllers;
 mod faults;
+mod lives;
+mod naming;
 mod nodes;
+mod numbers;
+mod reporting;
 mod sent;
 mod setting;
+mod stage;
+mod stepping;
+mod trailing;
+mod world;
 
-pub use faults::WorldFault;
-pub use nodes::Node;
-pub use sent::Parcel;
-pub use setting::Setting;
+pub use faults::{Refused, WorldFault};
+pub use fc_steps::Step;
+pub use world::World;

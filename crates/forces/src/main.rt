@@ -47,7 +47,9 @@ fn hub<'a>(
         return TcpHub::listen(alloc, rt, "", 1);
     };
     match meant {
-        Command::Show | Command::Make => TcpHub::listen(alloc, rt, "", 1),
+        Command::Show | Command::Make | Command::World | Command::Gen { .. } => TcpHub::listen(
+            alloc, rt, "", 1,
+        ),
         Command::Element {
             address,
             connections,
@@ -67,7 +69,11 @@ fn rounds_file(alloc: Global, words: &[String]) -> Result<Text, Memory> {
         return Text::from_str(alloc, "");
     };
     match meant {
-        Command::Show | Command::Make | Command::Element { .. } => Text::from_str(alloc, ""),
+        Command::Show
+        | Command::Make
+        | Command::World
+        | Command::Gen { .. }
+        | Command::Element { .. } => Text::from_str(alloc, ""),
         Command::Control { rounds_file, .. } => Ok(rounds_file),
     }
 }

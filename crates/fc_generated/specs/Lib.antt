@@ -1,0 +1,3 @@
+pub mod Tables
+pub mod Transactions
+pub mod Generated

@@ -1,0 +1,6 @@
+pub mod Steps
+pub mod Plays
+pub mod Promising
+pub mod Deciding
+pub mod Ending
+pub mod Statuses

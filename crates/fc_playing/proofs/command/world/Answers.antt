@@ -1,0 +1,20 @@
+use Rattle.std.proofs.Common.{subst}
+use Rattle.fc_endings.specs.Stops.{FlushedAt, SinkCount}
+use Rattle.fc_endings.proofs.Endings.{finished_count}
+use Rattle.fc_playing.specs.WorldRun.{is_unread}
+use Rattle.fc_playing.specs.declared.end.PlayEnd.{PlayEnd}
+use Rattle.fc_playing.proofs.Ending.{play_finished}
+use Rattle.fc_playing.proofs.command.world.Goals as goal
+
+pub returns-in-Ok-clause-ends : goal.returns-in-Ok-clause-ends
+returns-in-Ok-clause-ends g c = play_finished c.in-Ok.end c.finished.result _ _ _ _ _ _ _ c.in-Ok.ensures.ends c.finished.ensures.end c.finished.ensures.same
+
+pub returns-in-Ok-clause-source : goal.returns-in-Ok-clause-source
+returns-in-Ok-clause-source g c = finished_count PlayEnd is_unread c.in-Ok.end c.finished.result _ _ c.in-Ok.ensures.source c.finished.ensures.end
+
+pub returns-in-Ok-clause-flushed : goal.returns-in-Ok-clause-flushed
+returns-in-Ok-clause-flushed g c =
+    subst (λ n. FlushedAt c.finished.result (g.K.Sink.written c.finished.new.out) n (g.K.Sink.flushed c.finished.new.out)) c.in-Ok.ensures.unflushed c.finished.ensures.flushed
+
+pub returns-in-Ok-clause-sink : goal.returns-in-Ok-clause-sink
+returns-in-Ok-clause-sink g c = subst (λ n. SinkCount c.finished.result n (g.K.Sink.faults c.finished.new.out)) c.in-Ok.ensures.sink c.finished.ensures.count

@@ -1,0 +1,5 @@
+pub mod Playing
+pub mod Promised
+pub mod WorldRun
+pub mod Runs
+pub mod Outcomes

@@ -1,0 +1,15 @@
+pub mod Lists
+pub mod Reading
+pub mod Counting
+pub mod Parting
+pub mod Serving
+pub mod Spelling
+pub mod Delivering
+pub mod Taking
+pub mod Turning
+pub mod Walking
+pub mod Rounding
+pub mod Phases
+pub mod Forward
+pub mod Making
+pub mod Rounds

@@ -1,0 +1,5 @@
+use Rattle.fc_words.proofs.Meanings as meanings
+use Rattle.fc_words.proofs.laws.words_of_gen.Goals as goal
+
+pub returns : goal.returns
+returns c = meanings.words_of_gen
