@@ -1,0 +1,4 @@
+pub mod Cutting
+pub mod DigitValues
+pub mod LineSteps
+pub mod OpenLines

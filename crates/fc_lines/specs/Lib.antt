@@ -1,0 +1,3 @@
+pub mod LineWords
+pub mod TextPlaces
+pub mod WordValues
