@@ -2,3 +2,5 @@ pub mod Cutting
 pub mod DigitValues
 pub mod LineSteps
 pub mod OpenLines
+pub mod HexWords
+pub mod IdWords

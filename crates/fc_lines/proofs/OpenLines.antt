@@ -1,9 +1,9 @@
 -- Words in a line whose end is not looked for before they are taken.
-use Rattle.std.proofs.Common.{◌≡◌, ◌≢◌, ◌⊎◌, ℕ, zero, suc, ◌+◌, ◌*◌, ◌<◌, ◌≤◌, ◌==◌, ◌++◌, List, [], ◌∷◌, length, take, drop, get_or, Bool, true, false, cond, Option, Some, None, Ok, Err, Result, refl, sym, ap, ◌∙◌, subst, arith, ne_eqb, eq-eqb, append_assoc, append-nil, length-append, add-one}
+use Rattle.std.proofs.Common.{◌≡◌, ◌≢◌, ◌⊎◌, ℕ, zero, suc, ◌+◌, ◌*◌, ◌<◌, ◌≤◌, ◌==◌, ◌++◌, List, [], ◌∷◌, length, take, drop, get_or, Bool, true, false, cond, Option, Some, None, Ok, Err, Result, refl, sym, ap, ◌∙◌, subst, arith, ne_eqb, append-nil, length-append, add-one}
 use Rattle.std.proofs.lemmas.Bool.{eqb-true}
 use Rattle.fc_lines.specs.TextPlaces.{TextPlace, place}
-use Rattle.fc_lines.specs.LineWords.{EndsWord, IsPlain, LinesLeft, WordsLeft, in_front, line_in, behind_line, lines_of, words_of, words_from, words_left, placed, first_word, rest_words, ended, word_in, word_of, WordItem, spaces_before, stands_at, line_at, lines_left, open_from}
-use Rattle.fc_lines.proofs.Cutting.{skip, stay}
+use Rattle.fc_lines.specs.LineWords.{EndsWord, IsPlain, WordsLeft, in_front, line_in, behind_line, lines_of, words_of, words_from, words_left, placed, first_word, rest_words, ended, word_in, word_of, WordItem, spaces_before, stands_at, line_at, lines_left, open_from}
+use Rattle.fc_lines.proofs.Cutting.{skip}
 use Rattle.fc_lines.proofs.LineSteps.{there, spaces_fit, stands_some, stands_spaces}
 
 -- bytes without spaces and line feeds stand in front of the line, and of its first word
@@ -184,3 +184,29 @@ unfolding word_in
 no_word line column true bytes m none = cc
 no_word line column false bytes m none =
     let same : column + length bytes ≡ column = omega (arith, ap length (none m)) in ap (λ k. Err (place line k)) same
+
+-- there are not more words than bytes, and one
+words_few_by : (b : ℕ) (t : Bool) (pieces : List (List ℕ)) (n : ℕ) → length pieces ≤ suc n → length (cond t ([] ∷ pieces) (in_front b pieces)) ≤ suc (suc n)
+words_few_by b true pieces n h = omega (arith, h)
+words_few_by b false [] n h = omega arith
+words_few_by b false (p ∷ ps) n h = omega (arith, h)
+
+words_few : (bytes : List ℕ) → length (words_of bytes) ≤ suc (length bytes)
+words_few [] = omega arith
+words_few (b ∷ bs) = words_few_by b (b == 32) (words_of bs) (length bs) (words_few bs)
+
+line_few_by : (b : ℕ) (t : Bool) (line : List ℕ) (n : ℕ) → length line ≤ n → length (cond t [] (b ∷ line)) ≤ suc n
+line_few_by b true line n h = omega arith
+line_few_by b false line n h = omega (arith, h)
+
+line_few : (bytes : List ℕ) → length (line_in bytes) ≤ length bytes
+line_few [] = omega arith
+line_few (b ∷ bs) = line_few_by b (b == 10) (line_in bs) (length bs) (line_few bs)
+
+placed_few : (column : ℕ) (ws : List (List ℕ)) → length (placed column ws) ≡ length ws
+placed_few column [] = refl
+placed_few column (w ∷ ws) = ap suc (placed_few (column + length w + 1) ws)
+
+pub few_words : (line column : ℕ) (more : Bool) (bytes : List ℕ) → length (words_from line column more (line_in bytes)).words ≤ length bytes + 1
+few_words line column false bytes = omega arith
+few_words line column true bytes = omega (arith, placed_few column (words_of (line_in bytes)), words_few (line_in bytes), line_few bytes)

@@ -1,6 +1,6 @@
 -- The lines of a text and the words of a line. A line ends at a line feed or at the end of the text, and single spaces part
 -- its words. This profile's own.
-use Rattle.std.specs.Prelude.{◌≡◌, ◌≢◌, ◌⊎◌, ◌<◌, ℕ, suc, get_or, ◌+◌, ◌*◌, ◌==◌, if◌then◌else◌, List, [], ◌∷◌, length, take, drop, Bool, true, false, Option, Some, None, Result, Ok, Err}
+use Rattle.std.specs.Prelude.{◌≡◌, ◌≢◌, ◌⊎◌, ◌<◌, ℕ, zero, suc, get_or, ◌+◌, ◌*◌, ◌==◌, if◌then◌else◌, List, [], ◌∷◌, length, take, drop, Bool, true, false, Option, Some, None, Result, Ok, Err}
 use Rattle.std.specs.Str.{bytes_eq}
 use Rattle.fc_base.specs.Answers.{◌>>=◌}
 use Rattle.fc_lines.specs.TextPlaces.{TextPlace, place}
@@ -174,3 +174,13 @@ labelled_digits label count text = given (behind_label label text) (digits_of co
 
 unfoldable pub labelled_in : List ℕ → ℕ → WordsLeft → Result (ℕ × WordsLeft) TextPlace
 labelled_in label count w = meaning (labelled_digits label count) w
+
+-- the numbers of so many words, which are decimal numbers
+abbrev pub value_of : Option ℕ → ℕ
+value_of None = 0
+value_of (Some n) = n
+
+abbrev pub numbers_of : ℕ → List WordItem → List ℕ
+numbers_of zero words = []
+numbers_of (suc count) [] = []
+numbers_of (suc count) (word ∷ words) = value_of (decimal_of word.text) ∷ numbers_of count words

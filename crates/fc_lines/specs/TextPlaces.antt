@@ -35,3 +35,11 @@ RefusedAt Is (Err faults.Memory) = Unit {0}
 abbrev pub Reads : {X S : Type 0} → Result X TextFault → Result (X × S) TextPlace → S → Type 0
 Reads (Ok x) read rest = read ≡ Ok (x, rest)
 Reads (Err fault) read rest = Fails fault read
+
+-- the same of what is lent, seen in a way
+abbrev pub Lends : {X Y : Type 0} → (X → Y) → Result X TextFault → Result Y TextPlace → Type 0
+Lends seen = answers.Gives seen told
+
+abbrev pub ReadsAs : {X Y S : Type 0} → (X → Y) → Result X TextFault → Result (Y × S) TextPlace → S → Type 0
+ReadsAs seen (Ok x) read rest = read ≡ Ok (seen x, rest)
+ReadsAs seen (Err fault) read rest = Fails fault read

@@ -52,3 +52,13 @@ pairs_of (high ∷ low ∷ bytes) =
 unfoldable pub octets_of : List ℕ → Option (List ℕ)
 octets_of [] = None
 octets_of (byte ∷ bytes) = if bytes_eq (byte ∷ bytes) (codes "-") then Some [] else pairs_of (byte ∷ bytes)
+
+-- the bytes of pairs of digits, of which none is missing
+abbrev pub byte_of : Option ℕ → ℕ
+byte_of None = 0
+byte_of (Some byte) = byte
+
+abbrev pub paired : List ℕ → List ℕ
+paired [] = []
+paired (byte ∷ []) = []
+paired (high ∷ low ∷ bytes) = byte_of (digits_of 2 (high ∷ low ∷ [])) ∷ paired bytes

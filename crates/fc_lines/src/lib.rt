@@ -2,10 +2,19 @@
 #![tactic(auto)]
 
 mod fault;
+mod hex_word;
 mod lines;
+mod named;
+mod numbers;
+mod said;
 mod values;
 mod words;
 
 pub use fault::TextFault;
+pub use hex_word::HexWord;
 pub use lines::Lines;
-pub use words::{Word, Words};
+pub use numbers::Numbers;
+pub use said::{
+    BodyLine, Head, LeafLine, Numbered, PathLine, body_line, code_line, head_line, ilv_line,
+    leaf_line, number_line, operation_line, path_line, select_line,
+};

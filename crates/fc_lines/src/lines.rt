@@ -1,5 +1,5 @@
 // The lines of a text, each with its indentation.
-ghost use Rattle.std.specs.Prelude.{◌≡◌, ◌≤◌, ◌<◌, ◌+◌, ◌^◌, length, OnOk, IfOk};
+ghost use Rattle.std.specs.Prelude.{◌≡◌, ◌≤◌, ◌<◌, ◌+◌, ◌^◌, length, [], OnOk, IfOk};
 ghost use Rattle.fc_lines.specs.TextPlaces.{Gives};
 ghost use Rattle.fc_lines.specs.LineWords.{ended, none_left, spaces_before as spaces, stands_at as stands, line_at, text_lines, closed as is_closed};
 ghost use Rattle.fc_lines.specs.declared.fault.TextFault.TheVariants.{At};
@@ -135,10 +135,19 @@ impl<'a> Lines<'a> {
         ensures behind { OnOk result (self.new ≡ words.entry.1) }
     {
         words.end()?;
+        self.go_on(words);
+        Ok(())
+    }
+
+    /// The same, where it is known that none is left.
+    #[inline(always)]
+    pub fn go_on(&mut self, words: Words<'a>)
+        requires { words.0.words ≡ [] }
+        ensures { self.new ≡ words.entry.1 }
+    {
         let rest = words.behind();
         self.rest = rest;
         self.taken = words.line();
         self.indent = spaces_before(rest);
-        Ok(())
     }
 }

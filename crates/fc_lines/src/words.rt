@@ -3,11 +3,15 @@ ghost use Rattle.std.specs.Prelude.{◌≡◌, ◌≤◌, ◌<◌, ◌^◌, ◌+
 ghost use Rattle.std.specs.Str.{bytes_eq};
 ghost use Rattle.fc_lines.specs.TextPlaces.{Gives, Reads, place};
 ghost use Rattle.fc_lines.specs.WordValues.{given, digits_of};
-ghost use Rattle.fc_lines.specs.LineWords.{behind_label as label_text, line_in, behind_line, lines_of, lines_left, IsPlain, EndsWord, open_from, words_left, word_in, ended, exactly as this, decimal_in, digits_in, labelled_in, labelled_digits, first_word, rest_words};
+ghost use Rattle.fc_lines.specs.LineWords.{behind_label as label_text, line_in, behind_line, lines_of, lines_left, IsPlain, EndsWord, open_from, words_left, word_in, ended, exactly as this, decimal_in, digits_in, octets_in, labelled_in, labelled_digits, first_word, rest_words};
+ghost use Rattle.fc_lines.specs.LineReading.{operation_in, type_in};
 ghost use Rattle.fc_lines.specs.declared.fault.TextFault.TheVariants.{At};
 
 use crate::TextFault;
+use crate::hex_word::HexWord;
+use crate::named::{message_named, operation_named};
 use crate::values::{decimal_of, eight_digits_of, sixteen_digits_of, two_digits_of};
+use fc_path::Operation;
 use std::marker::Model;
 
 /// A word of a line.
@@ -326,6 +330,59 @@ impl<'a> Words<'a> {
         match labelled_sixteen_of(label, word.text) {
             Some(number) => Ok(number),
             None => Err(self.misfit(&word)),
+        }
+    }
+
+    /// The next word as the name of a message, for which its type stands.
+    #[tactic(auto, unfolding(crate::specs::LineReading::type_in))]
+    pub fn message(&mut self) -> Result<u8, TextFault>
+        ensures exact { Reads result (type_in self.old.0) self.new.0 }
+        ensures behind { self.new.1 ≡ self.old.1 }
+    {
+        let word = self.word()?;
+        match message_named(word.text) {
+            Some(kind) => Ok(kind),
+            None => Err(self.misfit(&word)),
+        }
+    }
+
+    /// The next word as the name of an operation that may stand in a message of a type.
+    #[tactic(auto, unfolding(crate::specs::LineReading::operation_in))]
+    pub fn operation(&mut self, message: u8) -> Result<Operation, TextFault>
+        ensures exact { Reads result (operation_in message self.old.0) self.new.0 }
+        ensures behind { self.new.1 ≡ self.old.1 }
+    {
+        let word = self.word()?;
+        match operation_named(message, word.text) {
+            Some(operation) => Ok(operation),
+            None => Err(self.misfit(&word)),
+        }
+    }
+
+    /// The next word as bytes.
+    #[tactic(auto, unfolding(crate::specs::LineWords::octets_in))]
+    pub fn octets(&mut self) -> Result<HexWord<'a>, TextFault>
+        ensures exact { Reads result (octets_in self.old.0) self.new.0 }
+        ensures behind { self.new.1 ≡ self.old.1 }
+    {
+        let word = self.word()?;
+        match HexWord::of(word.text) {
+            Some(octets) => Ok(octets),
+            None => Err(self.misfit(&word)),
+        }
+    }
+
+    /// The same words once more, to be taken from here again. There are fewer of them than a number of 64 bits counts.
+    #[inline(always)]
+    pub fn again(&self) -> Words<'a>
+        ensures same { result ≡ self.now }
+        ensures few { length self.now.0.words ≤ 2 ^ 63 + 1 }
+    {
+        Words {
+            line: self.line,
+            column: self.column,
+            more: self.more,
+            rest: self.rest,
         }
     }
 }

@@ -1,4 +1,4 @@
-use Rattle.std.proofs.Common.{◌≡◌, ◌+◌, ◌-◌, ◌∷◌, ◌∙◌, List, ℕ, length, take, drop, true, sym, ap, subst, arith, length-drop}
+use Rattle.std.proofs.Common.{◌≡◌, ◌+◌, ◌-◌, ◌∙◌, List, ℕ, length, take, drop, true, sym, ap, subst, arith, length-drop}
 use Rattle.std.proofs.lemmas.List.{take_all}
 use Rattle.fc_lines.specs.LineWords.{IsPlain, EndsWord, behind_line, line_in, lines_left, lines_of, words_from}
 use Rattle.fc_lines.proofs.OpenLines.{last_word, last_words, same_behind, next_word, next_words, next_behind}
