@@ -16,7 +16,7 @@ use Rattle.fc_lines.specs.declared.said.LeafLine.{LeafLine}
 use Rattle.fc_lines.specs.declared.said.LeafLine.TheVariants as leaf_line
 use Rattle.fc_lines.specs.declared.said.Numbered.{Numbered}
 use Rattle.fc_lines.specs.declared.said.PathLine.{PathLine}
-use Rattle.fc_lines.specs.LineWords.{LinesLeft, WordItem, WordsLeft, decimal_in, digits_in, ended, exactly, fits_as, labelled_in, line_at, meaning, octets_in, word_in, words_left}
+use Rattle.fc_lines.specs.LineWords.{LinesLeft, WordItem, WordsLeft, closed, decimal_in, digits_in, ended, exactly, fits_as, labelled_in, line_at, meaning, octets_in, stands_at, word_in, words_left}
 use Rattle.fc_lines.specs.TextPlaces.{TextPlace, place}
 use Rattle.fc_lines.specs.WordValues.{decimal_of, given}
 
@@ -107,6 +107,10 @@ head_at left =
     >>= λ source. labelled_in (codes "to=") 8 source.1 >>= λ dest. labelled_in (codes "corr=") 16 dest.1
     >>= λ corr. labelled_in (codes "flags=") 8 corr.1 >>= λ flags. ended flags.1
     >>= λ _. Ok (record { kind = kind.0; source = source.0; dest = dest.0; corr = corr.0; flags = flags.0 }, l.1)
+
+-- behind a message another begins, or the text ends
+unfoldable pub shut : LinesLeft → Result (Unit {0}) TextPlace
+shut left = if stands_at 0 left.lines then Ok tt else closed left
 
 -- the line of an LFBselect: its class and its instance
 unfoldable pub lfb_at : ℕ → Reader (ℕ × ℕ)

@@ -16,5 +16,5 @@ pub use lines::Lines;
 pub use numbers::Numbers;
 pub use said::{
     BodyLine, Head, LeafLine, Numbered, PathLine, body_line, code_line, head_line, ilv_line,
-    leaf_line, number_line, operation_line, path_line, select_line,
+    is_bare, leaf_line, number_line, operation_line, path_line, select_line,
 };

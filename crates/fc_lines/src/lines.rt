@@ -1,6 +1,7 @@
 // The lines of a text, each with its indentation.
 ghost use Rattle.std.specs.Prelude.{◌≡◌, ◌≤◌, ◌<◌, ◌+◌, ◌^◌, length, [], OnOk, IfOk};
 ghost use Rattle.fc_lines.specs.TextPlaces.{Gives};
+ghost use Rattle.fc_lines.specs.LineReading.{shut as is_shut};
 ghost use Rattle.fc_lines.specs.LineWords.{ended, none_left, spaces_before as spaces, stands_at as stands, line_at, text_lines, closed as is_closed};
 ghost use Rattle.fc_lines.specs.declared.fault.TextFault.TheVariants.{At};
 
@@ -99,6 +100,18 @@ impl<'a> Lines<'a> {
             return Ok(());
         }
         Err(self.misplaced())
+    }
+
+    /// That behind a message another begins, or the text ends.
+    #[inline(always)]
+    #[tactic(auto, unfolding(crate::specs::LineReading::shut))]
+    pub fn shut(&self) -> Result<(), TextFault>
+        ensures { Gives result (is_shut self.now) }
+    {
+        if self.stands_at(0) {
+            return Ok(());
+        }
+        self.closed()
     }
 
     /// The same lines once more, to be read from here again.

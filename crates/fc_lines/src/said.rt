@@ -1,7 +1,9 @@
 // What each kind of line says, lent without memory: it is checked when its line is read, so that the first word that does not
 // fit is told, and whoever wants a value takes it from what is lent.
-ghost use Rattle.std.specs.Prelude.{◌≡◌, ◌≤◌, ◌<◌, length, OnOk};
+ghost use Rattle.std.specs.Prelude.{◌≡◌, ◌≤◌, ◌<◌, ◌&&◌, not, length, OnOk};
+ghost use Rattle.fc_path.specs.Kinds.{takes_nothing};
 ghost use Rattle.fc_lines.specs.TextPlaces.{Gives, Lends, Reads, ReadsAs};
+ghost use Rattle.fc_lines.specs.LineWords.{stands_at};
 ghost use Rattle.fc_lines.specs.LineReading.{body_head, body_head_at, body_said, code_in, head_at, ilv_at, ilv_of, key_in, key_of, leaf_head, leaf_head_at, leaf_said, lfb_at, name_at, number_at, outcome_at, steps_at, steps_in, steps_said};
 
 use crate::TextFault;
@@ -252,6 +254,15 @@ pub fn leaf_line<'a>(kind: OperKind, level: usize, lines: &mut Lines<'a>) -> Res
     let mut words = lines.open(level)?;
     let word = words.word()?;
     read_leaf(kind, &word, words, lines)
+}
+
+/// Whether a body at a level, in which PATH-DATA may stand, ends before its first line, which is not at this level.
+#[inline(always)]
+pub fn is_bare(kind: OperKind, level: usize, lines: &Lines) -> bool
+    requires { level ≤ 20 }
+    ensures { result ≡ (takes_nothing kind && not (stands_at level lines.now.lines)) }
+{
+    kind.takes_nothing() && !lines.stands_at(level)
 }
 
 // The rest of the first line of a body in which PATH-DATA may stand.

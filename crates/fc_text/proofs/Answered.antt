@@ -6,10 +6,10 @@ use Rattle.fc_msg.specs.Messages.{IsProper, canonical, message_fits}
 use Rattle.fc_msg.specs.declared.message.Message.{Message}
 use Rattle.fc_text.specs.Making.{Makes}
 use Rattle.fc_text.specs.TextGrammar.{SpellsSelects, SpellsText}
-use Rattle.fc_text.specs.TextPlaces.{TextPlace, place, Gives, RefusedAt}
+use Rattle.fc_lines.specs.TextPlaces.{TextPlace, place, Gives, RefusedAt}
 use Rattle.fc_text.specs.TextReading.{text_in, body_in}
-use Rattle.fc_text.specs.declared.fault.TextFault.{TextFault}
-use Rattle.fc_text.specs.declared.fault.TextFault.TheVariants.{At, Memory}
+use Rattle.fc_lines.specs.declared.fault.TextFault.{TextFault}
+use Rattle.fc_lines.specs.declared.fault.TextFault.TheVariants.{At, Memory}
 use Rattle.fc_text.proofs.Completeness.{spelled_body_is_read, spelled_text_is_read}
 use Rattle.fc_text.proofs.SoundMessages.{read_body_is_spelled, read_text_is_spelled}
 

@@ -1,7 +1,7 @@
 use Rattle.std.proofs.Common.{sym, ◌∙◌, subst, arith, Result}
 use Rattle.fc_path.specs.declared.path.Body.{Body}
-use Rattle.fc_text.specs.TextPlaces.{TextPlace, Reads}
-use Rattle.fc_text.specs.LineWords.{LinesLeft}
+use Rattle.fc_lines.specs.TextPlaces.{TextPlace, Reads}
+use Rattle.fc_lines.specs.LineWords.{LinesLeft}
 use Rattle.fc_text.specs.TextReading.{body_at, path_line, paths_by}
 use Rattle.fc_text.proofs.Loops.{begins_paths, deeper, goes}
 use Rattle.fc_text.proofs.read_path.+read.Goals as goal

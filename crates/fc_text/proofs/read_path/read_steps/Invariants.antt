@@ -1,6 +1,6 @@
 use Rattle.std.proofs.Common.{◌≡◌, ◌++◌, length, Ok}
 use Rattle.fc_base.specs.Answers.{◌>>=◌}
-use Rattle.fc_text.specs.TextReading.{steps_of, steps_in}
+use Rattle.fc_lines.specs.LineReading.{steps_of, steps_in}
 use Rattle.fc_text.proofs.read_path.read_steps.Given as goal
 
 abbrev pub invariant-words : goal.invariant-words
