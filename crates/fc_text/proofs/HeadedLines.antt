@@ -1,5 +1,5 @@
 -- A part is read by its first line, and then by what stands behind it.
-use Rattle.std.proofs.Common.{◌≡◌, ◌+◌, ◌&&◌, not, ℕ, List, codes, cond, Bool, true, false, Result, Ok, Err, refl, sym, ap, subst, ◌∙◌}
+use Rattle.std.proofs.Common.{◌≡◌, ◌+◌, ◌&&◌, not, ℕ, List, codes, cond, Bool, true, false, Option, Result, Ok, Err, refl, sym, ap, subst, ◌∙◌}
 use Rattle.std.specs.Str.{bytes_eq}
 use Rattle.fc_base.specs.Answers.{◌>>=◌}
 use Rattle.fc_path.specs.Kinds.{takes_full, takes_nothing, takes_outcome, takes_sparse}
@@ -9,6 +9,7 @@ use Rattle.fc_path.specs.declared.oper.OperKind.{OperKind}
 use Rattle.fc_path.specs.declared.oper.Select.{Select}
 use Rattle.fc_path.specs.declared.path.Body.{Body}
 use Rattle.fc_path.specs.declared.path.Body.TheVariants as body
+use Rattle.fc_path.specs.declared.path.Key.{Key}
 use Rattle.fc_path.specs.declared.path.PathData.{PathData}
 use Rattle.fc_lines.specs.LineReading.{BodyHead, LeafHead, Reader, body_head, body_head_at, code_in, ilv_at, leaf, leaf_head, leaf_head_at, lfb_at, name_at, operation_in, path, sparse, steps_at, steps_in}
 use Rattle.fc_lines.specs.LineWords.{LinesLeft, WordItem, WordsLeft, digits_in, ended, exactly, line_at, octets_in, stands_at, word_in}
@@ -67,15 +68,27 @@ last_body_is kind level left some =
 abbrev nested : List PathData × LinesLeft → Result (Body × LinesLeft) TextPlace
 nested paths = Ok (body.Nested paths.0, paths.1)
 
+abbrev as_path : LinesLeft → List ℕ × Option Key → Result (BodyHead × LinesLeft) TextPlace
+as_path left steps = Ok (path steps, left)
+
+abbrev as_leaf : LeafHead × LinesLeft → Result (BodyHead × LinesLeft) TextPlace
+as_leaf head = Ok (leaf head.0, head.1)
+
 module _ (inside : ℕ → Reader Body) (level : ℕ) (words : WordsLeft) (left : LinesLeft) where
-  nested_is : ((steps_in words >>= λ s. Ok (path s, left)) >>= λ h. body_of inside level h.0 h.1) ≡ (paths_by inside level words left >>= nested)
+  abbrev behind : BodyHead × LinesLeft → Result (Body × LinesLeft) TextPlace
+  behind head = body_of inside level head.0 head.1
+
+  abbrev paths_behind : List ℕ × Option Key → Result (List PathData × LinesLeft) TextPlace
+  paths_behind steps = paths_of inside level steps left
+
+  nested_is : ((steps_in words >>= as_path left) >>= behind) ≡ (paths_by inside level words left >>= nested)
   nested_is =
-      in_turn (steps_in words) _ _ (λ s. paths_of inside level s left >>= nested) (λ s. refl)
-      ∙ sym (in_turn (steps_in words) (λ s. paths_of inside level s left) nested (λ s. paths_of inside level s left >>= nested) (λ s. refl))
+      in_turn (steps_in words) (as_path left) behind (λ s. paths_behind s >>= nested) (λ s. refl)
+      ∙ sym (in_turn (steps_in words) paths_behind nested (λ s. paths_behind s >>= nested) (λ s. refl))
       ∙ ap (λ r. r >>= nested) (first_path inside level words left)
 
-  leaf_inside : (kind : OperKind) (word : WordItem) → ((leaf_head kind word words left >>= λ h. Ok (leaf h.0, h.1)) >>= λ h. body_of inside level h.0 h.1) ≡ leaf_in kind level word words left
-  leaf_inside kind word = in_turn (leaf_head kind word words left) _ _ (λ h. leaf_of level h.0 h.1) (λ h. refl) ∙ leaf_is kind level word words left
+  leaf_inside : (kind : OperKind) (word : WordItem) → ((leaf_head kind word words left >>= as_leaf) >>= behind) ≡ leaf_in kind level word words left
+  leaf_inside kind word = in_turn (leaf_head kind word words left) as_leaf behind (λ h. leaf_of level h.0 h.1) (λ h. refl) ∙ leaf_is kind level word words left
 
 pub body_by_is : (kind : OperKind) (inside : ℕ → Reader Body) (level : ℕ) (left : LinesLeft) → (takes_nothing kind && not (stands_at level left.lines)) ≡ false
     → LineThen (body_head_at kind level left) (body_of inside level) ≡ body_by kind inside level left
