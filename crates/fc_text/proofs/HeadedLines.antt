@@ -3,20 +3,18 @@ use Rattle.std.proofs.Common.{◌≡◌, ◌+◌, ◌&&◌, not, ℕ, List, code
 use Rattle.std.specs.Str.{bytes_eq}
 use Rattle.fc_base.specs.Answers.{◌>>=◌}
 use Rattle.fc_path.specs.Kinds.{takes_full, takes_nothing, takes_outcome, takes_sparse}
-use Rattle.fc_path.specs.declared.kinds.Operation.{Operation}
-use Rattle.fc_path.specs.declared.oper.Oper.{Oper}
 use Rattle.fc_path.specs.declared.oper.OperKind.{OperKind}
 use Rattle.fc_path.specs.declared.oper.Select.{Select}
 use Rattle.fc_path.specs.declared.path.Body.{Body}
 use Rattle.fc_path.specs.declared.path.Body.TheVariants as body
 use Rattle.fc_path.specs.declared.path.Key.{Key}
 use Rattle.fc_path.specs.declared.path.PathData.{PathData}
-use Rattle.fc_lines.specs.LineReading.{BodyHead, LeafHead, Reader, body_head, body_head_at, code_in, ilv_at, leaf, leaf_head, leaf_head_at, lfb_at, name_at, operation_in, path, sparse, steps_at, steps_in}
+use Rattle.fc_lines.specs.LineReading.{BodyHead, LeafHead, Reader, body_head, body_head_at, code_in, leaf, leaf_head, leaf_head_at, lfb_at, name_at, operation_in, path, steps_at, steps_in}
 use Rattle.fc_lines.specs.LineWords.{LinesLeft, WordItem, WordsLeft, digits_in, ended, exactly, line_at, octets_in, stands_at, word_in}
-use Rattle.fc_lines.specs.TextPlaces.{TextPlace, Fails, Reads, place}
+use Rattle.fc_lines.specs.TextPlaces.{TextPlace, Fails, Reads}
 use Rattle.fc_lines.specs.declared.fault.TextFault.{TextFault}
 use Rattle.fc_text.specs.HeadedReading.{body_of, leaf_of, path_of, paths_of}
-use Rattle.fc_text.specs.TextReading.{and_more, body_at, body_by, last_body, leaf_in, many_at, oper_at, operation_at, operation_paths_at, path_by, path_line, paths_by, select_at, some_at}
+use Rattle.fc_text.specs.TextReading.{body_at, body_by, last_body, leaf_in, oper_at, operation_at, operation_paths_at, path_by, path_line, paths_by, select_at, some_at}
 use Rattle.fc_lines.proofs.Cutting.{skip}
 use Rattle.fc_text.proofs.Loops.{fails_bind}
 

@@ -1,5 +1,5 @@
 -- What is read behind the first line of a part, by what that line says. This profile's own.
-use Rattle.std.specs.Prelude.{ℕ, ◌+◌, List, Option, Result, Ok}
+use Rattle.std.specs.Prelude.{ℕ, ◌+◌, List, Option, Ok}
 use Rattle.fc_base.specs.Answers.{◌>>=◌}
 use Rattle.fc_path.specs.declared.path.Body.{Body}
 use Rattle.fc_path.specs.declared.path.Body.TheVariants as body

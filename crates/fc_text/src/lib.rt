@@ -24,3 +24,4 @@ pub use laws::{
 };
 pub use message::show;
 pub use reading::{read_text, read_whole};
+pub use show_path::DEPTH;

@@ -1,9 +1,9 @@
 use Rattle.std.proofs.Common.{◌⊎◌}
 use Rattle.fc_text.specs.FirstMisfit.{FirstMisfit, FitsMessages, IsWithin, TooLongAt}
 use Rattle.fc_text.specs.TextReading.{text_in}
-use Rattle.fc_text.proofs.Answered.{made_at, made_only, made_spelled}
 use Rattle.fc_text.proofs.Misfits.{text_within}
 use Rattle.fc_text.proofs.RefusedPlaces.{text_first}
+use Rattle.fc_making.proofs.MadeTexts.{made_at, made_only, made_spelled}
 use Rattle.fc_making.proofs.making.make_bytes.Goals as goal
 
 pub returns-clause-spelled : goal.returns-clause-spelled

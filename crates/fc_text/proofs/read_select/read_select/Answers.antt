@@ -1,7 +1,6 @@
-use Rattle.std.proofs.Common.{◌+◌, ap, Err, Ok, Result}
+use Rattle.std.proofs.Common.{◌+◌, ap, Err, Ok}
 use Rattle.std.proofs.lemmas.Result.{err_from_is_err_and}
 use Rattle.fc_base.specs.Answers.{◌>>=◌}
-use Rattle.fc_path.specs.declared.oper.Select.{Select}
 use Rattle.fc_lines.specs.LineReading.{lfb_at}
 use Rattle.fc_text.specs.TextReading.{oper_at, select_at, some_at}
 use Rattle.fc_text.proofs.HeadedLines.{line_fails, line_reads, select_is, select_of}
