@@ -1,15 +1,18 @@
 -- What a call that writes what it reads has done. This profile's own.
-use Rattle.std.specs.Prelude.{◌≡◌, ℕ, ◌+◌, ◌&&◌, nat_lt, List, ◌++◌, length, map, Option, Some, None, IfSome, Result, Ok, Err}
+use Rattle.std.specs.Prelude.{◌≡◌, ℕ, ◌&&◌, nat_lt, List, ◌++◌, length, map, Option, None, IfSome, Result, Ok, Err}
 use Rattle.std.specs.List.{flat_map}
 use Rattle.fc_base.specs.declared.faults.WriteFault.{WriteFault}
 use Rattle.fc_base.specs.declared.faults.WriteFault.TheVariants as faults
 use Rattle.fc_wire.specs.Bytes.{u16_bytes, u32_bytes}
 use Rattle.fc_wire.specs.Writing.{Writing}
+use Rattle.fc_wire.specs.declared.header.Header.{Header}
 use Rattle.fc_path.specs.Canon.{Pushed, Written, joined, key_flags, key_written, path_written, wrapped}
 use Rattle.fc_path.specs.Kinds.{number_of}
 use Rattle.fc_path.specs.declared.oper.OperKind.{OperKind}
 use Rattle.fc_path.specs.declared.path.PathData.{PathData}
 use Rattle.fc_path.specs.declared.path.Key.{Key}
+use Rattle.fc_msg.specs.Reading.{flags_in}
+use Rattle.fc_lines.specs.declared.said.Head.{Head}
 use Rattle.fc_lines.specs.TextPlaces.{TextPlace, told}
 use Rattle.fc_lines.specs.declared.fault.TextFault.TheVariants as text_faults
 use Rattle.fc_making.specs.declared.unwritten.Unwritten.{Unwritten}
@@ -40,3 +43,7 @@ steps_written steps = record {
 -- an operation that holds these PATH-DATA
 abbrev pub operation_written : OperKind → List PathData → Written
 operation_written kind paths = wrapped (number_of kind) (joined (map path_written paths))
+
+-- the header of a message whose line says this, with the length of one alone
+abbrev pub header_for : Head → Header
+header_for head = record { kind = head.kind; words = 6; source = head.source; dest = head.dest; corr = head.corr; flags = flags_in head.flags }

@@ -1,4 +1,5 @@
 // Why a message was not written while it was read.
+ghost use Rattle.std.specs.Prelude.{◌≡◌};
 ghost use Rattle.fc_making.specs.Writes.{unwritten_by};
 ghost use Rattle.fc_making.specs.declared.unwritten.Unwritten.TheVariants.{Fault};
 ghost use Rattle.fc_lines.specs.declared.fault.TextFault.TheVariants.{Memory as no_memory};

@@ -7,7 +7,7 @@ ghost use Rattle.fc_msg.specs.Messages.{body_written, canonical};
 ghost use Rattle.fc_msg.specs.declared.message.Message.{Message as Spelled};
 ghost use Rattle.fc_lines.specs.LineReading.{number_at};
 ghost use Rattle.fc_text.specs.TextReading.{content_at, message_at};
-ghost use Rattle.fc_making.specs.Writes.{Writes, refused};
+ghost use Rattle.fc_making.specs.Writes.{Writes, header_for, refused};
 
 use crate::unwritten::Unwritten;
 use crate::write_select::{write_selects, write_some_selects};
@@ -38,17 +38,25 @@ fn write_content(to: &mut TlvWriter, kind: u8, lines: &mut Lines) -> Result<(), 
     ensures exact { Writes result (content_at kind lines.old) lines.new body_written to.old to.new }
     ensures less { OnOk result (length lines.new.lines ≤ length lines.old.lines) }
 {
-    match kind {
-        HEARTBEAT => Ok(()),
-        SETUP_RESPONSE => write_number_line(to, b"result", AS_RESULT, lines),
-        TEARDOWN => write_number_line(to, b"reason", AS_REASON, lines),
-        SETUP => write_selects(to, kind, 1, lines),
-        _ => write_some_selects(to, kind, 1, lines),
+    if kind == HEARTBEAT {
+        return Ok(());
     }
+    if kind == SETUP_RESPONSE {
+        return write_number_line(to, b"result", AS_RESULT, lines);
+    }
+    if kind == TEARDOWN {
+        return write_number_line(to, b"reason", AS_REASON, lines);
+    }
+    if kind == SETUP {
+        return write_selects(to, kind, 1, lines);
+    }
+    write_some_selects(to, kind, 1, lines)
 }
 
 // The header of a message whose line says this. Its length is that of one alone.
-fn header_of(head: Head) -> Header {
+fn header_of(head: Head) -> Header
+    ensures { result ≡ header_for head }
+{
     Header {
         kind: head.kind,
         words: 6,

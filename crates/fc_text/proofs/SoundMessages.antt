@@ -318,7 +318,7 @@ pub record IsHead (h : Head) (left rest : LinesLeft) : Type 0 where
 abbrev head : ℕ → ℕ → ℕ → ℕ → ℕ → Head
 head kind source dest corr word = record { kind = kind; source = source; dest = dest; corr = corr; flags = word }
 
-head_sound : (left : LinesLeft) (h : Head) (rest : LinesLeft) → head_at left ≡ Ok (h, rest) → IsHead h left rest
+pub head_sound : (left : LinesLeft) (h : Head) (rest : LinesLeft) → head_at left ≡ Ok (h, rest) → IsHead h left rest
 unfolding head_at type_in
 head_sound left h rest e =
     bind_ok (line_at 0 left) _ (h, rest) e λ l is1 e1.
