@@ -1,7 +1,8 @@
 // What comes of the longest messages, behind other bytes and other text.
 use fc_base::Memory;
+use fc_making::make_bytes;
 use fc_msg::{MsgBody, decode, encode};
-use fc_text::{make_bytes, read_text, show, show_bytes};
+use fc_text::{read_text, show, show_bytes};
 use std::alloc::Global;
 use std::test::Fail;
 

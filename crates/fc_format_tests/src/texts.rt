@@ -1,8 +1,9 @@
 // Texts of messages whose bytes stand in the specification of the format.
 use crate::digits::bytes_of;
 use fc_base::Memory;
+use fc_making::make_bytes;
 use fc_msg::{Message, decode, encode};
-use fc_text::{TextFault, make_bytes, read_text, show, show_bytes};
+use fc_text::{TextFault, read_text, show, show_bytes};
 use std::alloc::Global;
 use std::test::Fail;
 
