@@ -4,3 +4,4 @@ pub mod LineSteps
 pub mod OpenLines
 pub mod HexWords
 pub mod IdWords
+pub mod LabelWords

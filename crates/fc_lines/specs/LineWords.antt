@@ -1,8 +1,10 @@
 -- The lines of a text and the words of a line. A line ends at a line feed or at the end of the text, and single spaces part
 -- its words. This profile's own.
-use Rattle.std.specs.Prelude.{◌≡◌, ◌≢◌, ◌⊎◌, ◌<◌, ℕ, zero, suc, get_or, ◌+◌, ◌*◌, ◌==◌, if◌then◌else◌, List, [], ◌∷◌, length, take, drop, Bool, true, false, Option, Some, None, Result, Ok, Err}
+use Rattle.std.specs.Prelude.{◌≡◌, ◌≢◌, ◌⊎◌, ◌<◌, ℕ, zero, suc, get_or, ◌+◌, ◌*◌, ◌==◌, if◌then◌else◌, List, [], ◌∷◌, codes, length, take, drop, Bool, true, false, Option, Some, None, Result, Ok, Err}
 use Rattle.std.specs.Str.{bytes_eq}
 use Rattle.fc_base.specs.Answers.{◌>>=◌}
+use Rattle.fc_lines.specs.declared.label.Label.{Label}
+use Rattle.fc_lines.specs.declared.label.Label.TheVariants as labels
 use Rattle.fc_lines.specs.TextPlaces.{TextPlace, place}
 use Rattle.fc_lines.specs.WordValues.{given, decimal_of, digits_of, octets_of}
 
@@ -171,6 +173,13 @@ behind_label label text = if bytes_eq (take (length label) text) label then Some
 
 abbrev pub labelled_digits : List ℕ → ℕ → List ℕ → Option ℕ
 labelled_digits label count text = given (behind_label label text) (digits_of count)
+
+-- the labels of the numbers in the line of a message
+abbrev pub label_bytes : Label → List ℕ
+label_bytes labels.From = codes "from="
+label_bytes labels.To = codes "to="
+label_bytes labels.Corr = codes "corr="
+label_bytes labels.Flags = codes "flags="
 
 unfoldable pub labelled_in : List ℕ → ℕ → WordsLeft → Result (ℕ × WordsLeft) TextPlace
 labelled_in label count w = meaning (labelled_digits label count) w

@@ -3,6 +3,7 @@
 
 mod fault;
 mod hex_word;
+mod label;
 mod lines;
 mod named;
 mod numbers;

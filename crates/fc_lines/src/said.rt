@@ -8,6 +8,7 @@ ghost use Rattle.fc_lines.specs.LineReading.{body_head, body_head_at, body_said,
 
 use crate::TextFault;
 use crate::hex_word::HexWord;
+use crate::label::Label;
 use crate::lines::Lines;
 use crate::numbers::Numbers;
 use crate::values::decimal_of;
@@ -72,10 +73,10 @@ pub fn head_line(lines: &mut Lines) -> Result<Head, TextFault>
 {
     let mut words = lines.open(0)?;
     let kind = words.message()?;
-    let source = words.labelled_eight(b"from=")?;
-    let dest = words.labelled_eight(b"to=")?;
-    let corr = words.labelled_sixteen(b"corr=")?;
-    let flags = words.labelled_eight(b"flags=")?;
+    let source = words.labelled_eight(Label::From)?;
+    let dest = words.labelled_eight(Label::To)?;
+    let corr = words.labelled_sixteen(Label::Corr)?;
+    let flags = words.labelled_eight(Label::Flags)?;
     lines.close(words)?;
     Ok(Head {
         kind,
