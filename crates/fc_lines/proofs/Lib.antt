@@ -5,3 +5,4 @@ pub mod OpenLines
 pub mod HexWords
 pub mod IdWords
 pub mod LabelWords
+pub mod FrontDigits

@@ -1,7 +1,8 @@
 // The labels of the numbers in the line of a message.
-ghost use Rattle.std.specs.Prelude.{◌≡◌, ◌≤◌, ◌+◌, codes, length, option_map, take, drop, true, Some, IfSome};
+ghost use Rattle.std.specs.Prelude.{◌≡◌, ◌≤◌, ◌+◌, codes, length, option_map, take, drop, Some, IfSome};
 ghost use Rattle.fc_lines.specs.LineWords.{EndsWord, IsPlain, behind_label, label_bytes, labelled_digits};
 
+use crate::front::ends_word;
 use crate::values::{eight_digits, sixteen_digits};
 
 /// The label in front of the digits of a number in the line of a message.
@@ -70,17 +71,6 @@ fn behind_flags(bytes: &[u8]) -> Option<&[u8]>
             None
         }
         None => None,
-    }
-}
-
-// Whether a word ends in front of these bytes.
-#[inline(always)]
-fn ends_word(bytes: &[u8]) -> bool
-    ensures { result ≡ true → EndsWord bytes.now }
-{
-    match bytes {
-        [first, ..] => *first == b' ' || *first == b'\n',
-        [] => true,
     }
 }
 

@@ -2,6 +2,7 @@
 #![tactic(auto)]
 
 mod fault;
+mod front;
 mod hex_word;
 mod label;
 mod lines;

@@ -64,6 +64,10 @@ impl<'a> Numbers<'a> {
         if self.count == 0 {
             return None;
         }
+        if let Some(number) = self.words.quick_decimal() {
+            self.count -= 1;
+            return Some(number);
+        }
         match self.words.next() {
             Some(word) => {
                 self.count -= 1;

@@ -186,6 +186,9 @@ fn read_steps<'a>(mut words: Words<'a>, lines: &mut Lines<'a>) -> Result<PathLin
 {
     let first = words.again();
     let mut count = 0usize;
+    'ids: while let Some(_) = words.quick_decimal() {
+        count += 1;
+    }
     'words: while let Some(word) = words.next() {
         if is(word.text, b"key") {
             let key = read_key(words, lines)?;

@@ -3,11 +3,12 @@ ghost use Rattle.std.specs.Prelude.{◌≡◌, ◌≤◌, ◌<◌, ◌^◌, ◌+
 ghost use Rattle.std.specs.Str.{bytes_eq};
 ghost use Rattle.fc_lines.specs.TextPlaces.{Gives, Reads, place};
 ghost use Rattle.fc_lines.specs.WordValues.{given, digits_of};
-ghost use Rattle.fc_lines.specs.LineWords.{label_bytes, line_in, behind_line, lines_of, lines_left, IsPlain, EndsWord, open_from, words_left, word_in, ended, exactly as this, decimal_in, digits_in, octets_in, labelled_in, labelled_digits, first_word, rest_words};
+ghost use Rattle.fc_lines.specs.LineWords.{QuickNumber, label_bytes, line_in, behind_line, lines_of, lines_left, IsPlain, EndsWord, open_from, words_left, word_in, ended, exactly as this, decimal_in, digits_in, octets_in, labelled_in, labelled_digits, first_word, rest_words};
 ghost use Rattle.fc_lines.specs.LineReading.{operation_in, type_in};
 ghost use Rattle.fc_lines.specs.declared.fault.TextFault.TheVariants.{At};
 
 use crate::TextFault;
+use crate::front::decimal_in_front;
 use crate::hex_word::HexWord;
 use crate::label::Label;
 use crate::named::{message_named, operation_named};
@@ -260,12 +261,31 @@ impl<'a> Words<'a> {
         self.line
     }
 
+    /// The next word as a decimal number, if it is one of at most nine digits. Where it ends is not looked for before.
+    #[inline(always)]
+    pub fn quick_decimal(&mut self) -> Option<u32>
+        ensures some { IfSome result (λ n. QuickNumber n self.old.0 self.new.0) }
+        ensures behind { self.new.1 ≡ self.old.1 }
+        ensures none { IfNone result (self.new ≡ self.old) }
+    {
+        if !self.more {
+            return None;
+        }
+        let (number, len) = decimal_in_front(self.rest)?;
+        let (_, words) = passed(self.line, self.column, self.rest, len);
+        *self = words;
+        Some(number)
+    }
+
     /// The next word as a decimal number.
     #[tactic(auto, unfolding(crate::specs::LineWords::decimal_in))]
     pub fn decimal(&mut self) -> Result<u32, TextFault>
         ensures exact { Reads result (decimal_in self.old.0) self.new.0 }
         ensures behind { self.new.1 ≡ self.old.1 }
     {
+        if let Some(number) = self.quick_decimal() {
+            return Ok(number);
+        }
         let word = self.word()?;
         match decimal_of(word.text) {
             Some(number) => Ok(number),

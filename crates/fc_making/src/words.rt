@@ -16,6 +16,9 @@ use fc_wire::{FULL_DATA, KEY_INFO, TlvWriter};
 fn put_bytes(to: &mut TlvWriter, mut word: HexWord) -> Result<(), Memory>
     ensures { OnOk result (to.new ≡ writing (to.old.text ++ word.entry) to.old.places) }
 {
+    'fours: while let Some(number) = word.next_four() {
+        to.put_u32(number)?;
+    }
     'bytes: while let Some(byte) = word.next() {
         to.put(&[byte])?;
     }
