@@ -7,7 +7,7 @@ use Rattle.toml.specs.Data.{Data, Members, get_member, as_integer}
 use Rattle.fc_path.specs.declared.oper.Select.{Select}
 use Rattle.fc_plans.specs.Changes.{change_fault}
 use Rattle.fc_plans.specs.declared.fault.ChangeFault.{ChangeFault}
-use Rattle.fc_text.specs.TextPlaces.{TextPlace}
+use Rattle.fc_lines.specs.TextPlaces.{TextPlace}
 use Rattle.fc_text.specs.TextReading.{body_in}
 use Rattle.fc_types.specs.declared.fault.CheckFault.{CheckFault}
 use Rattle.fc_base.specs.Answers.{◌>>=◌}

@@ -12,8 +12,9 @@ use crate::tables::{ChangeTable, TransactionTable};
 use crate::transaction::PlanTxn;
 use fc_base::{FeId, List, Memory};
 use fc_library::{DocumentRule, LibFault};
+use fc_lines::TextFault;
 use fc_plans::{Change, ChangeFault};
-use fc_text::{TextFault, read_body};
+use fc_text::read_body;
 use std::alloc::Global;
 
 // The most participants of a transaction of a plan.

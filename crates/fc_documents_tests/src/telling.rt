@@ -4,7 +4,7 @@ use fc_documents::{Plan, PlanTxn, plan_from_slice};
 use fc_library::{LibFault, refusal};
 use fc_msg::{Message, MsgBody};
 use fc_plans::Change;
-use fc_text::show;
+use fc_showing::show;
 use fc_wire::Flags;
 use std::alloc::Global;
 use std::test::Fail;

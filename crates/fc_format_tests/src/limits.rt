@@ -1,7 +1,9 @@
 // What comes of the longest messages, behind other bytes and other text.
 use fc_base::Memory;
+use fc_making::make_bytes;
 use fc_msg::{MsgBody, decode, encode};
-use fc_text::{make_bytes, read_text, show, show_bytes};
+use fc_showing::{show, show_bytes};
+use fc_text::read_text;
 use std::alloc::Global;
 use std::test::Fail;
 
@@ -72,7 +74,7 @@ fn thrice(alloc: Global, part: &[u8]) -> Result<Vec<u8>, Memory> {
 
 fn text_of(alloc: Global, bytes: &[u8]) -> Result<Vec<u8>, Fail> {
     let mut text = Vec::new(alloc);
-    show_bytes(alloc, bytes, &mut text).ok().ok_or("a text")?;
+    show_bytes(bytes, &mut text).ok().ok_or("a text")?;
     Ok(text)
 }
 
@@ -81,7 +83,7 @@ fn is_shown(alloc: Global, bytes: &[u8], text: &[u8]) -> Result<bool, Fail> {
     let message = decode(alloc, bytes).ok().ok_or("a message")?;
     let mut shown = Vec::from_slice(alloc, text)?;
     show(&message, &mut shown).ok().ok_or("memory")?;
-    show_bytes(alloc, bytes, &mut shown).ok().ok_or("a text")?;
+    show_bytes(bytes, &mut shown).ok().ok_or("a text")?;
     Ok(shown.as_slice() == thrice(alloc, text)?.as_slice())
 }
 

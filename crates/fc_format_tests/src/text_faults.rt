@@ -1,8 +1,9 @@
 // Texts that mean the same, and texts that mean nothing, with the place of the first word that does not fit.
 use crate::digits::counted;
 use fc_base::List;
+use fc_lines::TextFault;
 use fc_msg::{Message, MsgBody};
-use fc_text::{TextFault, read_body, read_text};
+use fc_text::{read_body, read_text};
 use std::alloc::{AllocError, Global};
 use std::test::Fail;
 

@@ -1,8 +1,11 @@
 // Texts of messages whose bytes stand in the specification of the format.
 use crate::digits::bytes_of;
 use fc_base::Memory;
+use fc_lines::TextFault;
+use fc_making::make_bytes;
 use fc_msg::{Message, decode, encode};
-use fc_text::{TextFault, make_bytes, read_text, show, show_bytes};
+use fc_showing::{show, show_bytes};
+use fc_text::read_text;
 use std::alloc::Global;
 use std::test::Fail;
 
@@ -108,8 +111,8 @@ fn show_message(message: &Message, text: &mut Vec<u8>) -> Result<(), Fail> {
 }
 
 // The text of the message of bytes, behind what is there.
-fn show_frame(alloc: Global, bytes: &[u8], text: &mut Vec<u8>) -> Result<(), Fail> {
-    Ok(show_bytes(alloc, bytes, text).ok().ok_or("a text")?)
+fn show_frame(bytes: &[u8], text: &mut Vec<u8>) -> Result<(), Fail> {
+    Ok(show_bytes(bytes, text).ok().ok_or("a text")?)
 }
 
 // The text of a message.
@@ -122,7 +125,7 @@ fn shown(alloc: Global, message: &Message) -> Result<Vec<u8>, Fail> {
 // The text of the message of bytes.
 fn shown_bytes(alloc: Global, bytes: &[u8]) -> Result<Vec<u8>, Fail> {
     let mut text = Vec::new(alloc);
-    show_frame(alloc, bytes, &mut text)?;
+    show_frame(bytes, &mut text)?;
     Ok(text)
 }
 
@@ -152,7 +155,7 @@ fn shown_thrice(alloc: Global, bytes: &[u8]) -> Result<Vec<u8>, Fail> {
     let message = decoded(alloc, bytes)?;
     let mut text = Vec::new(alloc);
     show_message(&message, &mut text)?;
-    show_frame(alloc, bytes, &mut text)?;
+    show_frame(bytes, &mut text)?;
     show_message(&message, &mut text)?;
     Ok(text)
 }

@@ -1,5 +1,6 @@
 -- What steps come to, up to the first that can't be made.
-use Rattle.std.proofs.Common.{◌≡◌, ◌∙◌, ◌++◌, ℕ, List, [], ◌∷◌, None, Some, refl, sym, ap}
+use Rattle.std.proofs.Common.{◌≡◌, ◌∙◌, ◌++◌, ◌+◌, ℕ, suc, List, [], ◌∷◌, drop, length, length-append, None, Some, refl, sym, ap, subst}
+use Rattle.std.proofs.Math.Seq.{drop-append_seam}
 use Rattle.fc_documents.specs.declared.transaction.PlanTxn.{PlanTxn}
 use Rattle.std.specs.List.{fold}
 use Rattle.fc_scripts.specs.Scripts.{Scripted}
@@ -8,13 +9,14 @@ use Rattle.fc_steps.specs.declared.step.Step.{Step}
 use Rattle.fc_steps.specs.declared.step.Step.TheVariants as step
 use Rattle.fc_world.specs.Played.{AreMade, Played, begins_with, setting_of, world_of}
 use Rattle.fc_world.specs.Stages.{HasRound}
-use Rattle.fc_world.specs.Trails.{past, trail_of}
+use Rattle.fc_world.specs.Trails.{TrailSoFar, gone_on, no_trail, past, trail_of}
 use Rattle.fc_world.specs.Worlds.{WorldState, first_world}
 use Rattle.fc_world.specs.WorldSteps.{fault_of, happens, run}
 use Rattle.fc_world.specs.declared.faults.WorldFault.{WorldFault}
 use Rattle.fc_world.specs.declared.sent.Parcel.{Parcel}
+use Rattle.fc_world.proofs.Growing.{GrowsFrom, sends_behind}
 use Rattle.fc_world.proofs.Running.{run_more}
-use Rattle.fc_generating.specs.Trying.{last_world, tried, tried_by}
+use Rattle.fc_generating.specs.Trying.{Follows, last_world, tried, tried_by}
 
 -- a step that a text can say has a round where it begins a life
 pub has_round : (s : Step) → CanStep s → HasRound s
@@ -67,3 +69,32 @@ folded f b (x ∷ xs) ys = folded f (f b x) xs ys
 
 pub trail_behind : (ps qs : List Parcel) → trail_of (ps ++ qs) ≡ fold past (trail_of ps) qs
 trail_behind ps qs = folded past 0 ps qs
+
+-- ---- a trail that is taken along
+-- no message was sent yet
+pub follows_first : (script : Scripted) (p : Played) (t : TrailSoFar) → p ≡ begins_with (setting_of script) → t ≡ no_trail → Follows t (world_of p)
+follows_first script p t begins none = record {
+  count = ap (λ (s : TrailSoFar). s.count) none ∙ sym (ap (λ (q : Played). length (world_of q).sent) begins);
+  number = ap (λ (s : TrailSoFar). s.number) none ∙ sym (ap (λ (q : Played). trail_of (world_of q).sent) begins);
+}
+
+-- more was sent
+module _ (old new : TrailSoFar) (v w : WorldState) (follows : Follows old v) (on : new ≡ gone_on w.sent old) where
+  behind : (more : List Parcel) → w.sent ≡ v.sent ++ more → drop old.count w.sent ≡ more
+  behind more grown = ap (λ k. drop k w.sent) follows.count ∙ ap (drop (length v.sent)) grown ∙ drop-append_seam v.sent more
+
+  further : GrowsFrom v.sent w.sent → Follows new w
+  further (more, grown) = record {
+    count =
+        ap (λ (s : TrailSoFar). s.count) on ∙ ap (λ l. old.count + length l) (behind more grown) ∙ ap (λ k. k + length more) follows.count
+        ∙ sym (ap length grown ∙ length-append v.sent more);
+    number =
+        ap (λ (s : TrailSoFar). s.number) on ∙ ap (fold past old.number) (behind more grown) ∙ ap (λ h. fold past h more) follows.number
+        ∙ sym (ap trail_of grown ∙ trail_behind v.sent more);
+  }
+
+-- a step was made
+pub follows_on : (p q : Played) (place : ℕ) (s : Step) (old new : TrailSoFar) → q ≡ record { setting = p.setting; done = p.done ++ (place, s) ∷ [] } → Follows old (world_of p) → new ≡ gone_on (world_of q).sent old → Follows new (world_of q)
+follows_on p q place s old new is follows on =
+    let steps : world_of q ≡ happens p.setting.transactions (world_of p) (place, s) = ap world_of is ∙ run_more p.setting.transactions (first_world p.setting) p.done (place, s) in
+    further old new (world_of p) (world_of q) follows on (subst (λ (w : WorldState). GrowsFrom (world_of p).sent w.sent) (sym steps) (sends_behind p.setting.transactions (world_of p) (place, s)))

@@ -1,10 +1,11 @@
 -- What steps come to, up to the first that can't be made. This profile's own.
-use Rattle.std.specs.Prelude.{ℕ, Bool, true, false, List, [], ◌∷◌, Option, Some, None}
+use Rattle.std.specs.Prelude.{◌≡◌, ℕ, Bool, true, false, List, [], ◌∷◌, length, Option, Some, None}
 use Rattle.fc_documents.specs.declared.transaction.PlanTxn.{PlanTxn}
 use Rattle.fc_generated.specs.Generated.{generated}
 use Rattle.fc_scripts.specs.Scripts.{Scripted}
 use Rattle.fc_steps.specs.declared.step.Step.{Step}
 use Rattle.fc_world.specs.Played.{setting_of}
+use Rattle.fc_world.specs.Trails.{TrailSoFar, trail_of}
 use Rattle.fc_world.specs.Worlds.{WorldState, first_world}
 use Rattle.fc_world.specs.WorldSteps.{fault_of, happens}
 use Rattle.fc_world.specs.declared.faults.WorldFault.{WorldFault}
@@ -31,3 +32,8 @@ last_world s = tried s.transactions (first_world (setting_of s)) s.steps
 -- and that of a large run
 abbrev pub world_of_run : ℕ → WorldState
 world_of_run n = last_world (generated n)
+
+-- a trail that is past all messages that were sent in a world
+pub record Follows (t : TrailSoFar) (w : WorldState) : Type 0 where
+  pub count : t.count ≡ length w.sent
+  pub number : t.number ≡ trail_of w.sent

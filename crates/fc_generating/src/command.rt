@@ -6,21 +6,20 @@ ghost use Rattle.fc_generating.specs.Summaries as spec;
 ghost use Rattle.fc_world.specs.Played.{world_of};
 
 use crate::summary::summary;
-use crate::trying::played;
+use crate::trying::{Run, played};
 use fc_base::{Memory, Sink};
 use fc_endings::{Stop, finish, put};
 use fc_generated::generated;
-use fc_world::World;
 use std::alloc::Global;
 use std::mem;
 
-// What is written of a world. Nothing comes behind a run but the end of the program, and to take a world of many messages apart takes time.
-fn text_of(alloc: Global, count: u32, world: World) -> Result<Vec<u8>, Memory>
+// What is written of a run that was made. Nothing comes behind a run but the end of the program, and to take a world of many messages apart takes time.
+fn text_of(alloc: Global, count: u32, run: Run) -> Result<Vec<u8>, Memory>
     requires { count ≤ 1000 }
-    ensures { IfOk result (λ text. text.items ≡ spec.summary count (world_of world)) }
+    ensures { IfOk result (λ text. text.items ≡ spec.summary count (world_of run.world)) }
 {
-    let text = summary(alloc, count, &world);
-    mem::forget(world);
+    let text = summary(alloc, count, &run);
+    mem::forget(run);
     text
 }
 
@@ -30,8 +29,8 @@ fn told(alloc: Global, count: u32) -> Result<Vec<u8>, Memory>
     ensures { IfOk result (λ text. text.items ≡ told count) }
 {
     let script = generated(alloc, count)?;
-    let world = played(alloc, script)?;
-    text_of(alloc, count, world)
+    let run = played(alloc, script)?;
+    text_of(alloc, count, run)
 }
 
 // Writes all of a text, and flushes it.

@@ -4,9 +4,9 @@ ghost use Rattle.fc_world.specs.Played.{world_of};
 ghost use Rattle.fc_generating.specs.Summaries as spec;
 
 use crate::counting::{entries, outcomes};
+use crate::trying::Run;
 use fc_base::{Memory, eight_digits};
 use fc_master::Decision;
-use fc_world::World;
 use std::alloc::Global;
 
 // Appends the line on how many transactions there were to be.
@@ -60,19 +60,18 @@ fn put_trail(text: &mut Vec<u8>, trail: u32) -> Result<(), Memory>
     Ok(())
 }
 
-/// The summary of a run of so many transactions that has come to a world.
-pub(crate) fn summary(alloc: Global, count: u32, world: &World) -> Result<Vec<u8>, Memory>
-    ensures { IfOk result (λ text. text.items ≡ spec.summary count (world_of world.now)) }
+/// The summary of a run of so many transactions.
+pub(crate) fn summary(alloc: Global, count: u32, run: &Run) -> Result<Vec<u8>, Memory>
+    ensures { IfOk result (λ text. text.items ≡ spec.summary count (world_of run.now.world)) }
 {
-    let completed = outcomes(world, Decision::Complete);
-    let aborted = outcomes(world, Decision::Abort);
-    let rows = entries(world)?;
-    let trail = world.trail()?;
+    let completed = outcomes(&run.world, Decision::Complete);
+    let aborted = outcomes(&run.world, Decision::Abort);
+    let rows = entries(&run.world)?;
     let mut text = Vec::new(alloc);
     put_run(&mut text, count)?;
     put_jobs(&mut text, completed, aborted)?;
-    put_sent(&mut text, world.sent())?;
+    put_sent(&mut text, run.world.sent())?;
     put_entries(&mut text, rows)?;
-    put_trail(&mut text, trail)?;
+    put_trail(&mut text, run.trail)?;
     Ok(text)
 }

@@ -5,15 +5,24 @@ ghost use Rattle.fc_scripts.specs.Kept.{CanBeSaid};
 ghost use Rattle.fc_steps.specs.declared.step.Step.{Step};
 ghost use Rattle.fc_world.specs.Played.{world_of};
 ghost use Rattle.fc_world.specs.Stages.{HasRound};
+ghost use Rattle.fc_world.specs.Trails.{trail_of};
 ghost use Rattle.fc_world.specs.declared.faults.WorldFault.TheVariants as faults;
-ghost use Rattle.fc_generating.specs.Trying.{last_world, tried, tried_behind};
+ghost use Rattle.fc_generating.specs.Trying.{Follows, last_world, tried, tried_behind};
 
 use fc_base::Memory;
 use fc_scripts::Script;
 use fc_steps::Step;
-use fc_world::{World, WorldFault};
+use fc_world::{Trail, World, WorldFault};
 use std::alloc::Global;
 use std::mem;
+
+/// A world, and the trail of all messages that were sent in it.
+#[derive(Drop)]
+pub(crate) struct Run {
+    pub world: World,
+    pub trail: u32,
+    ghost all: { trail ≡ trail_of (world_of world).sent },
+}
 
 // Whatever fault it was, it was not want of memory.
 fn not_memory(fault: WorldFault) -> Result<(), Memory>
@@ -25,14 +34,19 @@ fn not_memory(fault: WorldFault) -> Result<(), Memory>
     }
 }
 
-// Makes a step, if it can be made, and tells whether it was.
-fn try_step(world: &mut World, place: usize, step: Step) -> Result<bool, Memory>
-    requires { HasRound step }
+// Makes a step, if it can be made, and tells whether it was. The trail goes past what was sent while that is still at hand.
+fn try_step(world: &mut World, trail: &mut Trail, place: usize, step: Step) -> Result<bool, Memory>
+    requires round { HasRound step }
+    requires follows { Follows trail.old (world_of world.old) }
     ensures setting { OnOk result (world.new.setting ≡ world.old.setting) }
     ensures tried { IfOk result (λ made. (rest : List (ℕ × Step)) → tried world.old.setting.transactions (world_of world.old) ((place, step) ∷ rest) ≡ tried_behind made world.old.setting.transactions (world_of world.new) rest) }
+    ensures follows { OnOk result (Follows trail.new (world_of world.new)) }
 {
     match world.step(place, step) {
-        Ok(_) => Ok(true),
+        Ok(_) => {
+            trail.go_on(world)?;
+            Ok(true)
+        }
         Err(fault) => {
             not_memory(fault)?;
             Ok(false)
@@ -41,23 +55,26 @@ fn try_step(world: &mut World, place: usize, step: Step) -> Result<bool, Memory>
 }
 
 // Makes the steps in their order, up to the first that can't be made.
-fn try_all(world: &mut World, steps: Vec<(usize, Step)>) -> Result<(), Memory>
-    requires { AllByRecursion CanBeSaid steps.items }
-    ensures { OnOk result (world_of world.new ≡ tried world.old.setting.transactions (world_of world.old) steps.items) }
+fn try_all(world: &mut World, trail: &mut Trail, steps: Vec<(usize, Step)>) -> Result<(), Memory>
+    requires said { AllByRecursion CanBeSaid steps.items }
+    requires follows { Follows trail.old (world_of world.old) }
+    ensures tried { OnOk result (world_of world.new ≡ tried world.old.setting.transactions (world_of world.old) steps.items) }
+    ensures follows { OnOk result (Follows trail.new (world_of world.new)) }
 {
     for (place, step) in steps {
-        if !try_step(world, place, step)? {
+        if !try_step(world, trail, place, step)? {
             return Ok(());
         }
     }
     Ok(())
 }
 
-/// The last world of a script.
-pub(crate) fn played(alloc: Global, script: Script) -> Result<World, Memory>
-    ensures { IfOk result (λ world. world_of world ≡ last_world script) }
+/// The last world of a script, and its trail.
+pub(crate) fn played(alloc: Global, script: Script) -> Result<Run, Memory>
+    ensures { IfOk result (λ run. world_of run.world ≡ last_world script) }
 {
     let mut world = World::new(alloc, &script)?;
+    let mut trail = Trail::new(alloc);
     let Script {
         steps,
         transactions,
@@ -65,6 +82,9 @@ pub(crate) fn played(alloc: Global, script: Script) -> Result<World, Memory>
     } = script;
     // The world has its own, and nothing asks for the room of these again before the program ends.
     mem::forget(transactions);
-    try_all(&mut world, steps.into_vec())?;
-    Ok(world)
+    try_all(&mut world, &mut trail, steps.into_vec())?;
+    Ok(Run {
+        world,
+        trail: trail.number(),
+    })
 }

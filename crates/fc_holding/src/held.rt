@@ -1,6 +1,5 @@
 // What records tell of the transactions that are held.
 ghost use Rattle.std.specs.Prelude.{◌≡◌, ◌++◌, slice_get, IfOk, OnOk};
-ghost use Rattle.fc_protocol.specs.Messages.{same};
 ghost use Rattle.fc_protocol.specs.Records as tables;
 ghost use Rattle.fc_protocol.specs.Scopes.{covers};
 ghost use Rattle.fc_tx.specs.Kept.{passes};
@@ -37,22 +36,6 @@ pub fn is_started(state: TxnState) -> bool
     }
 }
 
-fn is_of(entry: &TxnEntry, txn: TxnId) -> bool
-    ensures { result ≡ same txn entry.now.txn }
-{
-    txn == entry.txn
-}
-
-// Whether the record at a place is that of a transaction.
-fn is_at(records: &Records, at: usize, txn: TxnId) -> bool
-    ensures { result ≡ passes (λ n. same txn n.txn) (slice_get records.now.entries at) }
-{
-    match records.entry(at) {
-        Some(entry) => is_of(entry, txn),
-        None => false,
-    }
-}
-
 // The scope of the record at a place.
 fn scope_at(records: &Records, at: usize) -> &[(u32, u32)]
     ensures { result.now ≡ spec.scope_in (slice_get records.now.entries at) }
@@ -67,12 +50,10 @@ fn scope_at(records: &Records, at: usize) -> &[(u32, u32)]
 pub fn scope_of(records: &Records, txn: TxnId) -> &[(u32, u32)]
     ensures { result.now ≡ spec.scope_of txn records.now.entries }
 {
-    for at in 0..records.len() {
-        if is_at(records, at, txn) {
-            return scope_at(records, at);
-        }
+    match records.place_of(txn) {
+        Some(at) => scope_at(records, at),
+        None => &[],
     }
-    &[]
 }
 
 // Whether an instance lies in a scope.
@@ -106,7 +87,7 @@ fn takes_at(records: &Records, at: usize, place: (u32, u32)) -> bool
 fn is_taken(records: &Records, place: (u32, u32)) -> bool
     ensures { result ≡ tables.is_taken records.now.entries place }
 {
-    for at in 0..records.len() {
+    for at in records.first_held()..records.len() {
         if takes_at(records, at, place) {
             return true;
         }
@@ -214,7 +195,7 @@ pub fn held_instances(
     ensures { IfOk result (λ held. held.items ≡ spec.held_instances all.now but.now records.now.entries) }
 {
     let mut held = Vec::new(alloc);
-    for at in 0..records.len() {
+    for at in records.first_held()..records.len() {
         push_held_at(&mut held, all, records, at, but)?;
     }
     Ok(held)

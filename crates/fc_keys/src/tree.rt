@@ -15,11 +15,11 @@ use std::mem;
 #[cycle(tree)]
 #[derive(Debug, Drop)]
 pub(crate) struct Fork {
-    left: Tree,
-    key: HeldKey,
-    subscript: u32,
+    pub(crate) left: Tree,
+    pub(crate) key: HeldKey,
+    pub(crate) subscript: u32,
     height: u8,
-    right: Tree,
+    pub(crate) right: Tree,
 }
 
 #[cycle(tree)]

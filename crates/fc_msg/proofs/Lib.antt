@@ -6,6 +6,7 @@ pub mod FaultPlaces
 pub mod Holding
 pub mod Measured
 pub mod Numbers
+pub mod Opening
 pub mod Reading
 pub mod Selects
 pub mod Splitting

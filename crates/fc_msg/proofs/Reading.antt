@@ -209,7 +209,7 @@ fails_in (faults.WrongBody place) r b p e = second r b _ _ p e refl
 fails_in (faults.Trailing place) r b p e = second r b _ _ p e refl
 fails_in faults.Memory r b p e = tt
 
-is_body_in : (bytes tail : List ℕ) (kind end : ℕ) (t : Tiling TlvItem) → kind ≡ slice_index bytes 1 → tail ≡ drop 24 bytes → end ≡ length bytes → t ≡ tlvs 24 tail → body_at kind end t.items t.fault ≡ body_in bytes
+pub is_body_in : (bytes tail : List ℕ) (kind end : ℕ) (t : Tiling TlvItem) → kind ≡ slice_index bytes 1 → tail ≡ drop 24 bytes → end ≡ length bytes → t ≡ tlvs 24 tail → body_at kind end t.items t.fault ≡ body_in bytes
 is_body_in bytes tail kind end t k d e i =
     ap (λ (t : Tiling TlvItem). body_at kind end t.items t.fault) i ∙ ap (λ n. body_of n end 24 tail) k ∙ ap (λ n. body_of (slice_index bytes 1) n 24 tail) e ∙ ap (body_of (slice_index bytes 1) (length bytes) 24) d
 

@@ -2,6 +2,7 @@ pub mod Bodies
 pub mod BodyVisits
 pub mod Decoding
 pub mod Faults
+pub mod Heads
 pub mod Lending
 pub mod Messages
 pub mod MessageTypes

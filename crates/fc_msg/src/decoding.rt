@@ -11,11 +11,12 @@ ghost use Rattle.fc_msg.specs.Reading.{Tells, message_in};
 
 use crate::body::read_body;
 use crate::fault::{MsgFault, Reason, Refusal};
+use crate::heads::FrameHead;
 use crate::message::{
     CONFIG, CONFIG_RESPONSE, EVENT, HEARTBEAT, Message, QUERY, QUERY_RESPONSE, REDIRECT, SETUP,
     SETUP_RESPONSE, TEARDOWN,
 };
-use fc_wire::{Header, Tlvs};
+use fc_wire::Header;
 use std::alloc::Global;
 
 /// The message that the bytes spell, or the first rule that they break, with its place.
@@ -36,20 +37,16 @@ fn message_of(alloc: Global, bytes: &[u8]) -> Result<Message, MsgFault>
     ensures found { IfOk result (λ m. message_in bytes.now ≡ Some m) }
     ensures refused { IfErr result (λ fault. Refuses (fault_of bytes.now) fault) }
 {
-    let header = match headed(bytes) {
-        Ok(header) => header,
-        Err(refusal) => return Err(MsgFault::At(refusal)),
-    };
-    let tlvs = Tlvs::over(&bytes[24..], 24);
-    let body = match read_body(alloc, header.kind, tlvs, bytes.len()) {
+    let head = FrameHead::read(bytes)?;
+    let body = match read_body(alloc, head.body) {
         Ok(body) => body,
         Err(fault) => return Err(MsgFault::from(fault)),
     };
     Ok(Message {
-        source: header.source,
-        dest: header.dest,
-        corr: header.corr,
-        flags: header.flags,
+        source: head.header.source,
+        dest: head.header.dest,
+        corr: head.header.corr,
+        flags: head.header.flags,
         body,
     })
 }

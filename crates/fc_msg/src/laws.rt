@@ -13,6 +13,7 @@ ghost use Rattle.fc_msg.specs.declared.message.MsgBody.{MsgBody};
 ghost use Rattle.fc_msg.specs.declared.message.Message.{Message};
 ghost use Rattle.fc_msg.specs.declared.fault.Refusal.{Refusal};
 ghost use Rattle.fc_msg.specs.Faults.{fault_of, head_fault};
+ghost use Rattle.fc_msg.specs.Heads.{body_by_head};
 ghost use Rattle.fc_msg.specs.Messages.{Spells, IsProper, canonical, message_fits};
 ghost use Rattle.fc_msg.specs.Reading.{message_in};
 ghost use Rattle.fc_msg.specs.Splitting.{Call, after_calls, fed, unfed};
@@ -69,4 +70,10 @@ pub fn any_pieces()
         × AllByRecursion IsFrame (after_calls unfed calls).taken }
     ensures all { (calls : List Call) → IsPartial (after_calls unfed calls).rest →
         Frames (fed calls) (after_calls unfed calls).taken (after_calls unfed calls).rest }
+{}
+
+/// The body of a message of a type, whose TLVs go on to an end, is its head and then its LFBselects: reading gives the first
+/// fault of the head, else that of the LFBselects, else the two together.
+pub fn a_body_is_its_head_and_its_selects()
+    ensures { (kind end : ℕ) (items : List TlvItem) (cut : Option WireFault) → body_at kind end items cut ≡ body_by_head kind end items cut }
 {}

@@ -1,15 +1,14 @@
 -- How many bytes are written.
-use Rattle.std.proofs.Common.{◌≡◌, ℕ, ◌+◌, ◌*◌, ◌/◌, ◌%◌, ◌<◌, ◌≤◌, ◌&&◌, Bool, true, false, nat_lt, List, [], ◌∷◌, ◌++◌, length, map, Option, Some, None, refl, sym, ap, ◌∙◌, subst, arith, length-append}
+use Rattle.std.proofs.Common.{◌≡◌, ℕ, ◌+◌, ◌*◌, ◌/◌, ◌<◌, ◌≤◌, ◌&&◌, Bool, true, false, nat_lt, List, [], ◌∷◌, ◌++◌, length, map, Option, Some, None, refl, sym, ap, ◌∙◌, subst, arith, length-append}
 use Rattle.std.specs.List.{flat_map}
 use Rattle.fc_wire.specs.Bytes.{u16_bytes, u32_bytes}
 use Rattle.fc_wire.specs.Writing.{ilv_bytes, tlv_bytes, padding}
 use Rattle.fc_wire.specs.declared.ilvs.Ilv.{Ilv}
 use Rattle.fc_wire.proofs.ItemLaws.{tlv_length}
 use Rattle.fc_path.specs.Kinds.{number_of}
-use Rattle.fc_path.specs.Canon.{Written, plain, joined, ilv_written, result_written, key_written, key_flags, body_written, path_written, path_step, oper_written, select_written, full_written, sparse_written}
+use Rattle.fc_path.specs.Canon.{Written, plain, joined, ilv_written, result_written, key_written, key_flags, body_written, path_written, oper_written, select_written, full_written, sparse_written}
 use Rattle.fc_path.specs.Results.{Sized, Held}
 use Rattle.fc_path.specs.declared.oper.OperKind.{OperKind}
-use Rattle.fc_path.specs.declared.oper.Oper.{Oper}
 use Rattle.fc_path.specs.declared.oper.Oper.TheVariants as oper
 use Rattle.fc_path.specs.declared.oper.Select.{Select}
 use Rattle.fc_path.specs.declared.path.PathData.{PathData}

@@ -109,16 +109,6 @@ pub body_leaf_fails : (kind : OperKind) (one : TlvItem → Result PathData PathF
     → Some (Ok t) ≡ next_of items fault → rest ≡ rest_of items fault → t.kind ≢ 272 → Fails e (leaf_at kind t) → Fails e (body_in kind one end items fault)
 body_leaf_fails kind one end items fault t rest e n r k f = subst (Fails e) (sym (body_leaf kind one end items fault t rest n r k)) (fails_bind e _ _ f)
 
-pub body_shut_fails : (kind : OperKind) (one : TlvItem → Result PathData PathFault) (end : ℕ) (items : List TlvItem) (fault : Option WireFault) (t : TlvItem) (rest : Tiling TlvItem) (leaf : Body) (e : PathFault)
-    → Some (Ok t) ≡ next_of items fault → rest ≡ rest_of items fault → t.kind ≢ 272 → leaf_at kind t ≡ Ok leaf → Fails e (shut beside rest.items rest.fault) → Fails e (body_in kind one end items fault)
-body_shut_fails kind one end items fault t rest leaf e n r k is f =
-    subst (Fails e) (sym (body_leaf kind one end items fault t rest n r k ∙ ap (λ q. q >>= λ leaf. shut beside rest.items rest.fault >>= λ _. Ok leaf) is)) (fails_bind e _ _ f)
-
-pub body_shut : (kind : OperKind) (one : TlvItem → Result PathData PathFault) (end : ℕ) (items : List TlvItem) (fault : Option WireFault) (t : TlvItem) (rest : Tiling TlvItem) (leaf : Body)
-    → Some (Ok t) ≡ next_of items fault → rest ≡ rest_of items fault → t.kind ≢ 272 → leaf_at kind t ≡ Ok leaf → shut beside rest.items rest.fault ≡ Ok tt → body_in kind one end items fault ≡ Ok leaf
-body_shut kind one end items fault t rest leaf n r k is e =
-    body_leaf kind one end items fault t rest n r k ∙ ap (λ q. q >>= λ leaf. shut beside rest.items rest.fault >>= λ _. Ok leaf) is ∙ ap (λ q. q >>= λ _. Ok leaf) e
-
 pub neither : (m k : ℕ) → 4 ≤ m → k ≤ m → (nat_lt m 4 || nat_lt m k) ≡ false
 neither m k p q = grind arith
 
@@ -157,6 +147,3 @@ path_at_ok kind n d count path end place keyed t inner more ids key b e h c p k 
 -- a PATH-DATA where one may stand
 pub or_path : (stray : TlvItem → PathFault) (one : TlvItem → Result PathData PathFault) (t : TlvItem) → t.kind ≡ 272 → path_or stray one t ≡ one t
 or_path stray one t k = ap (λ n. cond (n == 272) (one t) (Err (stray t))) k
-
-pub or_fails : (stray : TlvItem → PathFault) (one : TlvItem → Result PathData PathFault) (t : TlvItem) (e : PathFault) → t.kind ≡ 272 → Fails e (one t) → Fails e (path_or stray one t)
-or_fails stray one t e k f = subst (Fails e) (sym (or_path stray one t k)) f

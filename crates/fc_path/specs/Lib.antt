@@ -1,3 +1,4 @@
+pub mod BodyHeads
 pub mod Canon
 pub mod Grammar
 pub mod Heads
@@ -6,5 +7,6 @@ pub mod Leaves
 pub mod Proper
 pub mod Reading
 pub mod Results
+pub mod SelectHeads
 pub mod Stray
 pub mod Visits

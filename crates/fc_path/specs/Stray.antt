@@ -1,7 +1,8 @@
 -- TLVs that may not stand where they do, and the fault of each (this profile's own order of refusals).
-use Rattle.std.specs.Prelude.{◌≡◌, List, [], ◌∷◌, Option, Some, None, IfSome, Result, Ok, Err, if◌then◌else◌}
+use Rattle.std.specs.Prelude.{◌≡◌, ◌==◌, List, [], ◌∷◌, Option, Some, None, IfSome, Result, Ok, Err, if◌then◌else◌}
 use Rattle.fc_base.specs.Answers as answers
 use Rattle.fc_wire.specs.Tlvs.{TlvItem}
+use Rattle.fc_wire.specs.Types as types
 use Rattle.fc_wire.specs.declared.header.WireFault.{WireFault}
 use Rattle.fc_path.specs.Kinds.{is_known}
 use Rattle.fc_path.specs.declared.fault.PathFault.{PathFault}
@@ -38,6 +39,10 @@ beside tlv = if is_known tlv.kind then faults.TwoBodies tlv.place else faults.Un
 -- a TLV behind the only one that may stand here
 abbrev pub trailing : TlvItem → PathFault
 trailing tlv = if is_known tlv.kind then faults.Trailing tlv.place else faults.UnknownTlv tlv.place
+
+-- nothing but a PATH-DATA may stand here
+abbrev pub a_path : (TlvItem → PathFault) → TlvItem → Result (Unit {0}) PathFault
+a_path stray tlv = if tlv.kind == types.path_data then Ok tt else Err (stray tlv)
 
 -- nothing may stand here
 abbrev pub shut : (TlvItem → PathFault) → List TlvItem → Option WireFault → Result (Unit {0}) PathFault

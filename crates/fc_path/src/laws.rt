@@ -8,7 +8,8 @@ ghost use Rattle.fc_path.specs.Canon.{select_written};
 ghost use Rattle.fc_path.specs.Grammar.{IsSelect, IsSelectOf};
 ghost use Rattle.fc_path.specs.Heads.{path_by_head};
 ghost use Rattle.fc_path.specs.Proper.{ProperSelect};
-ghost use Rattle.fc_path.specs.Reading.{path_at, select_at};
+ghost use Rattle.fc_path.specs.Reading.{oper_at, path_at, select_at};
+ghost use Rattle.fc_path.specs.SelectHeads.{oper_by_head, select_by_head};
 ghost use Rattle.fc_path.specs.Visits.{IsGood, FirstBad, AreRising, select_visits};
 ghost use Rattle.fc_path.specs.declared.fault.PathFault.{PathFault};
 ghost use Rattle.fc_path.specs.declared.fault.PathFault.TheVariants.{Memory};
@@ -51,4 +52,11 @@ pub fn faults_are_in_reading_order()
 /// the head, else that of the body, else the two together.
 pub fn a_path_is_its_head_and_its_body()
     ensures { (kind : OperKind) (depth : ℕ) (tlv : TlvItem) → path_at kind (suc depth) tlv ≡ path_by_head kind depth tlv }
+{}
+
+/// An LFBselect of a message of a type is its head and then its operations, and each of these is its head and then what it
+/// holds: reading gives the first fault of the head, else that of what it holds, else the two together.
+pub fn selects_and_operations_are_their_heads_and_what_they_hold()
+    ensures selects { (message : ℕ) (tlv : TlvItem) → select_at message tlv ≡ select_by_head message tlv }
+    ensures operations { (message : ℕ) (tlv : TlvItem) → oper_at message tlv ≡ oper_by_head message tlv }
 {}

@@ -1,17 +1,18 @@
 // Reading operations and selects, with the first fault in reading order.
-ghost use Rattle.std.specs.Prelude.{◌≡◌, ◌%◌, ◌+◌, ◌<◌, ◌≤◌, ◌^◌, Ok, length, IfOk};
+ghost use Rattle.std.specs.Prelude.{◌≡◌, Ok, IfOk};
 ghost use Rattle.fc_path.specs.Stray.{Gives, misplaced as is_misplaced};
 ghost use Rattle.fc_wire.specs.Bytes.{AreBytes};
 ghost use Rattle.fc_path.specs.Grammar.{IsSelectOf};
 ghost use Rattle.fc_path.specs.declared.oper.Select.{Select as Selected};
-ghost use Rattle.fc_path.specs.Reading.{some_in, path_or, path_at, oper_at, operation_at, select_at};
+ghost use Rattle.fc_path.specs.SelectHeads.{with_paths};
+ghost use Rattle.fc_path.specs.Reading.{some_in, path_or, path_at, oper_at, select_at};
 
-use crate::kinds::{Operation, holds_selects, operation_for};
-use crate::read_path::{read_only_outcome, read_path};
-use crate::stray::{is_known_in_select, misplaced};
+use crate::read_path::read_path;
+use crate::select_heads::{OperHead, SelectHead};
+use crate::stray::must_be_path;
 use crate::{Oper, OperKind, PathData, PathFault, Select};
-use fc_base::{Code, List, Shared};
-use fc_wire::{PATH_DATA, SELECT, Tlv, Tlvs, WireFault, read_u32};
+use fc_base::{List, Shared};
+use fc_wire::{Tlv, Tlvs};
 use std::alloc::Global;
 
 /// How deep PATH-DATA may nest.
@@ -31,10 +32,7 @@ fn read_paths(
         match next {
             Err(fault) => return Err(PathFault::Wire(fault)),
             Ok(tlv) => {
-                if tlv.kind != PATH_DATA {
-                    return Err(misplaced(&tlv));
-                }
-                let path = read_path(alloc, kind, DEPTH, &tlv)?;
+                let path = PathData::read(alloc, kind, &tlv)?;
                 paths.push(path)?;
             }
         }
@@ -45,34 +43,18 @@ fn read_paths(
     Ok(paths)
 }
 
-// A TLV that is an operation.
-fn read_operation(alloc: Global, operation: Operation, tlv: &Tlv) -> Result<Oper, PathFault>
-    ensures { Gives result (operation_at operation tlv.now) }
+// An operation, with the PATH-DATA that it holds of its own.
+fn owned_oper(alloc: Global, head: OperHead) -> Result<Oper, PathFault>
+    ensures { Gives result (with_paths head.entry) }
 {
-    let padded = tlv.padded();
-    let place = tlv.place + 4;
-    let end = place + padded.len();
-    match operation {
-        Operation::Paths(kind) => {
-            let paths = read_paths(alloc, kind, Tlvs::over(padded, place), end)?;
+    match head {
+        OperHead::Paths { kind, paths, end } => {
+            let paths = read_paths(alloc, kind, paths, end)?;
             Ok(Oper::Paths(kind, Shared::of(paths)?))
         }
-        Operation::Commit => {
-            if !tlv.body.is_empty() {
-                return Err(PathFault::WrongBody { place: tlv.place });
-            }
-            Ok(Oper::Commit)
-        }
-        Operation::Trcomp => {
-            if !tlv.body.is_empty() {
-                return Err(PathFault::WrongBody { place: tlv.place });
-            }
-            Ok(Oper::Trcomp)
-        }
-        Operation::CommitResponse => {
-            let code = read_only_outcome(Tlvs::over(padded, place), end)?;
-            Ok(Oper::CommitResponse(code))
-        }
+        OperHead::Commit => Ok(Oper::Commit),
+        OperHead::Trcomp => Ok(Oper::Trcomp),
+        OperHead::CommitResponse(code) => Ok(Oper::CommitResponse(code)),
     }
 }
 
@@ -80,17 +62,8 @@ fn read_operation(alloc: Global, operation: Operation, tlv: &Tlv) -> Result<Oper
 fn read_oper(alloc: Global, message: u8, tlv: &Tlv) -> Result<Oper, PathFault>
     ensures { Gives result (oper_at message tlv.now) }
 {
-    let place = tlv.place;
-    match operation_for(message, tlv.kind) {
-        Some(operation) => read_operation(alloc, operation, tlv),
-        None => {
-            if is_known_in_select(tlv.kind) {
-                Err(PathFault::WrongBody { place })
-            } else {
-                Err(PathFault::UnknownTlv { place })
-            }
-        }
-    }
+    let head = OperHead::read(message, tlv)?;
+    owned_oper(alloc, head)
 }
 
 // The operations of an LFBselect with an end, of which there is at least one.
@@ -118,29 +91,15 @@ fn read_opers(
     Ok(opers)
 }
 
-// An LFBselect, whose padded value is at hand.
-fn read_select(alloc: Global, message: u8, tlv: &Tlv, padded: &[u8]) -> Result<Select, PathFault>
-    requires padded { padded.now ≡ tlv.now.padded }
-    requires whole { length padded.now % 4 ≡ 0 }
-    requires cut { length tlv.now.body ≤ length padded.now }
-    requires within { tlv.now.place + 4 + length padded.now < 2 ^ 64 }
+// An LFBselect.
+fn read_select(alloc: Global, message: u8, tlv: &Tlv) -> Result<Select, PathFault>
     ensures { Gives result (select_at message tlv.now) }
 {
-    if tlv.kind != SELECT || !holds_selects(message) {
-        return Err(misplaced(tlv));
-    }
-    if tlv.body.len() < 8 {
-        return Err(PathFault::Wire(WireFault::TlvShort { place: tlv.place }));
-    }
-    let (_, inner) = padded.split_at(8);
-    let class = read_u32(padded, 0);
-    let instance = read_u32(padded, 4);
-    let place = tlv.place;
-    let end = place + 4 + padded.len();
-    let opers = read_opers(alloc, message, Tlvs::over(inner, place + 12), end)?;
+    let head = SelectHead::read(message, tlv)?;
+    let opers = read_opers(alloc, message, head.opers, head.end)?;
     Ok(Select {
-        class,
-        instance,
+        class: head.class,
+        instance: head.instance,
         opers,
     })
 }
@@ -150,9 +109,7 @@ impl PathData {
     pub fn read(alloc: Global, kind: OperKind, tlv: &Tlv) -> Result<PathData, PathFault>
         ensures { Gives result (path_or is_misplaced (path_at kind 16) tlv.now) }
     {
-        if tlv.kind != PATH_DATA {
-            return Err(misplaced(tlv));
-        }
+        must_be_path(tlv)?;
         read_path(alloc, kind, DEPTH, tlv)
     }
 }
@@ -172,6 +129,6 @@ impl Select {
     {
         let padded = tlv.padded();
         are_bytes(padded);
-        read_select(alloc, message, tlv, padded)
+        read_select(alloc, message, tlv)
     }
 }

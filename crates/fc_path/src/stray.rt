@@ -2,11 +2,11 @@
 ghost use Rattle.std.specs.Prelude.{◌≡◌};
 ghost use Rattle.std.specs.Result.{IsErrOf};
 ghost use Rattle.fc_path.specs.Kinds.{is_known as known, in_select};
-ghost use Rattle.fc_path.specs.Stray.{Gives, misplaced as is_misplaced, beside as is_beside, trailing as is_trailing, shut};
+ghost use Rattle.fc_path.specs.Stray.{Gives, a_path, misplaced as is_misplaced, beside as is_beside, trailing as is_trailing, shut};
 ghost use Rattle.fc_path.specs.declared.fault.PathFault.TheVariants.{Memory};
 
 use crate::PathFault;
-use fc_wire::{SELECT, Tlv, Tlvs};
+use fc_wire::{PATH_DATA, SELECT, Tlv, Tlvs};
 
 /// Whether a type is in a table, where no operation may stand.
 #[inline(always)]
@@ -64,7 +64,33 @@ pub fn trailing(tlv: &Tlv) -> PathFault
     }
 }
 
-/// That nothing stands behind the body of a PATH-DATA.
+/// That a TLV in an operation is a PATH-DATA. Else `WrongBody`, or `UnknownTlv` where its type is in no table, at its place.
+#[inline(always)]
+pub fn must_be_path(tlv: &Tlv) -> Result<(), PathFault>
+    ensures { Gives result (a_path is_misplaced tlv.now) }
+{
+    if tlv.kind == PATH_DATA {
+        Ok(())
+    } else {
+        Err(misplaced(tlv))
+    }
+}
+
+/// That a TLV behind a PATH-DATA in the body of another one is one too. Else `TwoBodies`, or `UnknownTlv` where its type is
+/// in no table, at its place.
+#[inline(always)]
+pub fn must_be_nested(tlv: &Tlv) -> Result<(), PathFault>
+    ensures { Gives result (a_path is_beside tlv.now) }
+{
+    if tlv.kind == PATH_DATA {
+        Ok(())
+    } else {
+        Err(beside(tlv))
+    }
+}
+
+/// That nothing stands behind the body of a PATH-DATA that is no PATH-DATA. Else `TlvShort` or `TlvPast`, `TwoBodies`, or
+/// `UnknownTlv` where the type of what stands there is in no table.
 pub fn no_more_bodies(mut tlvs: Tlvs) -> Result<(), PathFault>
     ensures { Gives result (shut is_beside tlvs.entry.items tlvs.entry.fault) }
 {

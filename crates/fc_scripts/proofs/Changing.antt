@@ -2,7 +2,7 @@
 use Rattle.std.proofs.Common.{◌≡◌, ℕ, Bool, true, false, if◌then◌else◌, List, [], ◌∷◌, map, Option, Some, None, Result, Ok, Err, refl, sym, subst}
 use Rattle.std.specs.List.{AllByRecursion}
 use Rattle.fc_path.specs.declared.oper.Select.{Select}
-use Rattle.fc_text.specs.TextPlaces.{TextPlace}
+use Rattle.fc_lines.specs.TextPlaces.{TextPlace}
 use Rattle.fc_text.specs.TextReading.{body_in}
 use Rattle.fc_text.proofs.SoundMessages.{read_body_is_spelled}
 use Rattle.fc_plans.specs.Changes.{change_fault}

@@ -1,15 +1,14 @@
 -- What an answer of reading a text is to what the text spells, and to the place at which it fails.
-use Rattle.std.proofs.Common.{◌≡◌, ℕ, true, List, ◌++◌, IfOk, OnOk, Result, Ok, Err, sym, ◌∙◌, subst}
-use Rattle.std.specs.List.{AllByRecursion, flat_map}
+use Rattle.std.proofs.Common.{◌≡◌, ℕ, true, List, IfOk, Result, Ok, Err, subst}
+use Rattle.std.specs.List.{AllByRecursion}
 use Rattle.fc_path.specs.declared.oper.Select.{Select}
-use Rattle.fc_msg.specs.Messages.{IsProper, canonical, message_fits}
+use Rattle.fc_msg.specs.Messages.{IsProper, message_fits}
 use Rattle.fc_msg.specs.declared.message.Message.{Message}
-use Rattle.fc_text.specs.Making.{Makes}
 use Rattle.fc_text.specs.TextGrammar.{SpellsSelects, SpellsText}
-use Rattle.fc_text.specs.TextPlaces.{TextPlace, place, Gives, RefusedAt}
+use Rattle.fc_lines.specs.TextPlaces.{TextPlace, place, Gives, RefusedAt}
 use Rattle.fc_text.specs.TextReading.{text_in, body_in}
-use Rattle.fc_text.specs.declared.fault.TextFault.{TextFault}
-use Rattle.fc_text.specs.declared.fault.TextFault.TheVariants.{At, Memory}
+use Rattle.fc_lines.specs.declared.fault.TextFault.{TextFault}
+use Rattle.fc_lines.specs.declared.fault.TextFault.TheVariants.{At, Memory}
 use Rattle.fc_text.proofs.Completeness.{spelled_body_is_read, spelled_text_is_read}
 use Rattle.fc_text.proofs.SoundMessages.{read_body_is_spelled, read_text_is_spelled}
 
@@ -41,17 +40,3 @@ selects_spelled bytes (Err fault) told = tt
 
 pub only_selects : (bytes : List ℕ) (r : Result (List Select) TextFault) (ss : List Select) → Gives r (body_in bytes) → SpellsSelects ss bytes → Gives r (Ok ss)
 only_selects bytes r ss told s = subst (λ (read : Result (List Select) TextPlace). Gives r read) (spelled_body_is_read ss bytes s) told
-
--- the bytes that are made of a text are those of the messages that it spells
-pub made_spelled : (bytes old new : List ℕ) (r : Result (Unit {0}) TextFault) → Makes r (text_in bytes) old new
-    → OnOk r ((ms : List Message) × (text_in bytes ≡ Ok ms) × SpellsText ms bytes × (new ≡ old ++ flat_map canonical ms))
-made_spelled bytes old new (Ok done) (ms, is, e) = (ms, is, read_text_is_spelled ms bytes is, e)
-made_spelled bytes old new (Err fault) made = tt
-
-pub made_only : (bytes old new : List ℕ) (r : Result (Unit {0}) TextFault) (ms : List Message) → Makes r (text_in bytes) old new → SpellsText ms bytes → Makes r (Ok ms) old new
-made_only bytes old new r ms made s = subst (λ read. Makes r read old new) (spelled_text_is_read ms bytes s) made
-
-pub made_at : (Is : TextPlace → Type 0) (read : Result (List Message) TextPlace) (old new : List ℕ) (r : Result (Unit {0}) TextFault) → ((p : TextPlace) → read ≡ Err p → Is p) → Makes r read old new → RefusedAt Is r
-made_at Is read old new (Ok done) each made = tt
-made_at Is read old new (Err (At line column)) each made = each (place line column) made.0
-made_at Is read old new (Err Memory) each made = tt

@@ -1,10 +1,11 @@
 -- Readers one after the other, and items of lines, go on with other lines where they fail.
 use Rattle.std.proofs.Common.{◌≡◌, ◌<◌, ◌≤◌, ◌+◌, ◌*◌, ℕ, zero, suc, Bool, true, false, cond, List, [], ◌∷◌, ◌++◌, length, Result, Ok, Err, append_assoc, length-append, refl, sym, ap, ◌∙◌, arith, eqb-true}
-use Rattle.fc_text.specs.LineWords.{LinesLeft, lines_left, spaces_before, stands_at}
+use Rattle.fc_lines.specs.LineWords.{LinesLeft, lines_left, spaces_before, stands_at}
 use Rattle.fc_text.specs.TextGrammar.{Line, SpellsLine, AreEach}
 use Rattle.fc_base.specs.Answers.{◌>>=◌}
-use Rattle.fc_text.specs.TextPlaces.{TextPlace}
-use Rattle.fc_text.specs.TextReading.{Reader, and_more, each_at, many_at, some_at}
+use Rattle.fc_lines.specs.TextPlaces.{TextPlace}
+use Rattle.fc_lines.specs.LineReading.{Reader}
+use Rattle.fc_text.specs.TextReading.{and_more, each_at, many_at, some_at}
 use Rattle.fc_text.proofs.Completions.{same_place}
 use Rattle.fc_text.proofs.CompletedLines.{SameTo, Completes, pure_err}
 use Rattle.fc_text.proofs.ReadLines.{Gives}

@@ -2,12 +2,12 @@
 use Rattle.std.proofs.Common.{◌≡◌, ◌<◌, ◌+◌, ◌*◌, ◌==◌, ℕ, Bool, true, false, cond, ◌⊎◌, inl, inr, List, [], ◌∷◌, ◌++◌, length, drop, Result, Ok, Err, refl, sym, ap, subst, ◌∙◌, arith, eqb-true}
 use Rattle.std.specs.List.{AllByRecursion}
 use Rattle.fc_text.specs.FirstMisfit.{before, SameBefore, RestBefore}
-use Rattle.fc_text.specs.LineWords.{WordsLeft, LinesLeft, in_front, words_of, words_from, words_left, lines_left, placed, spaces_before, line_at}
+use Rattle.fc_lines.specs.LineWords.{WordsLeft, LinesLeft, in_front, words_of, words_from, words_left, lines_left, placed, spaces_before, line_at}
 use Rattle.fc_text.specs.Text.{indent}
 use Rattle.fc_text.specs.TextGrammar.{parted}
 use Rattle.fc_base.specs.Answers.{◌>>=◌}
-use Rattle.fc_text.specs.TextPlaces.{TextPlace, place}
-use Rattle.fc_text.specs.TextReading.{Reader}
+use Rattle.fc_lines.specs.TextPlaces.{TextPlace, place}
+use Rattle.fc_lines.specs.LineReading.{Reader}
 use Rattle.fc_text.proofs.Completions.{span, same_place, Ready, Goes, GoesOn, Completed}
 use Rattle.fc_text.proofs.ReadLines.{Gives, begin_by}
 use Rattle.fc_text.proofs.SoundWords.{spaces_sound, parted_words}

@@ -12,13 +12,15 @@ use Rattle.fc_msg.specs.declared.message.Message.{Message}
 use Rattle.fc_msg.specs.declared.message.MsgBody.{MsgBody}
 use Rattle.fc_msg.specs.declared.message.MsgBody.TheVariants.{Setup, SetupResponse, Teardown, Heartbeat}
 use Rattle.fc_text.specs.FirstMisfit.{RestBefore}
-use Rattle.fc_text.specs.LineWords.{WordsLeft, LinesLeft, lines_left, line_at, stands_at, none_left, closed, word_in, exactly, labelled_in, ended as words_ended}
+use Rattle.fc_lines.specs.LineWords.{WordsLeft, LinesLeft, lines_left, line_at, stands_at, none_left, closed, word_in, exactly, labelled_in, ended as words_ended}
 use Rattle.fc_text.specs.TextGrammar.{oper_lines, select_lines, content_lines, message_lines, SpellsLine, AreEach}
 use Rattle.fc_base.specs.Answers.{◌>>=◌}
-use Rattle.fc_text.specs.TextPlaces.{TextPlace, place}
-use Rattle.fc_text.specs.WordValues.{digits_of}
-use Rattle.fc_text.specs.declared.reading.Head.{Head}
-use Rattle.fc_text.specs.TextReading.{Reader, many_at, some_at, code_in, outcome_at, operation_paths_at, operation_at, number_named, operation_named, operation_in, oper_at, select_at, number_at, content_at, message_named, type_in, head_at, shut, message_of, whole_at}
+use Rattle.fc_lines.specs.TextPlaces.{TextPlace, place}
+use Rattle.fc_lines.specs.WordValues.{digits_of}
+use Rattle.fc_lines.specs.declared.said.Head.{Head}
+use Rattle.fc_lines.specs.LineReading.{Reader, code_in, outcome_at, number_named, operation_named, operation_in, number_at, message_named, type_in, head_at}
+use Rattle.fc_lines.specs.LineReading.{shut}
+use Rattle.fc_text.specs.TextReading.{many_at, some_at, operation_paths_at, operation_at, oper_at, select_at, content_at, message_of, whole_at}
 use Rattle.fc_text.proofs.Completions.{same_place, word_goes, ended_goes}
 use Rattle.fc_text.proofs.CompletedLines.{SameTo, Ended, Behind, Completes, CompletesLine, line_goes, done_goes, map_goes, same_goes, pure_err}
 use Rattle.fc_text.proofs.CompletedItems.{ReadsAgain, GoesBehind, again_by, IsItem, then_goes, many_goes, some_goes}

@@ -11,11 +11,12 @@ use Rattle.fc_path.specs.declared.path.Key.{Key}
 use Rattle.fc_path.specs.declared.path.PathData.{PathData}
 use Rattle.fc_path.specs.declared.path.Body.{Body, out-Body}
 use Rattle.fc_path.specs.declared.path.Body.TheVariants as body
-use Rattle.fc_text.specs.LineWords.{WordsLeft, LinesLeft, words_left, lines_left, placed, spaces_before, stands_at, line_at, word_in, exactly, octets_in, ended as words_ended}
+use Rattle.fc_lines.specs.LineWords.{WordsLeft, LinesLeft, words_left, lines_left, placed, spaces_before, stands_at, line_at, word_in, exactly, octets_in, ended as words_ended}
 use Rattle.fc_text.specs.TextGrammar.{ilv_line, body_lines, path_lines, SpellsLine, AreEach}
 use Rattle.fc_base.specs.Answers.{◌>>=◌}
-use Rattle.fc_text.specs.TextPlaces.{TextPlace, place}
-use Rattle.fc_text.specs.TextReading.{Reader, and_more, many_at, ilv_at, steps_in, code_in, leaf_in, path_data, path_by, path_line, paths_by, last_body, body_by, body_at, operation_paths_at}
+use Rattle.fc_lines.specs.TextPlaces.{TextPlace, place}
+use Rattle.fc_lines.specs.LineReading.{Reader, ilv_at, steps_in, code_in}
+use Rattle.fc_text.specs.TextReading.{and_more, many_at, leaf_in, path_data, path_by, path_line, paths_by, last_body, body_by, body_at, operation_paths_at}
 use Rattle.fc_text.proofs.Completions.{Refuses, Chosen, choice_goes, ended_goes}
 use Rattle.fc_text.proofs.CompletedLines.{Ended, Behind, Completes, CompletesLine, line_goes, done_goes, map_goes, pure_err}
 use Rattle.fc_text.proofs.CompletedItems.{Again, ReadsAgain, Counts, again_by, IsItem, then_goes, many_goes, others_go}

@@ -6,11 +6,12 @@ use Rattle.fc_path.specs.Proper.{ProperSelect}
 use Rattle.fc_path.specs.declared.oper.Select.{Select}
 use Rattle.fc_msg.specs.Messages.{IsProper}
 use Rattle.fc_text.specs.FirstMisfit.{RestBefore, TextsBefore, BeginsText, FitsMessages, FitsSelects}
-use Rattle.fc_text.specs.LineWords.{LinesLeft, lines_of, lines_left, text_lines, closed}
+use Rattle.fc_lines.specs.LineWords.{LinesLeft, lines_of, lines_left, text_lines, closed}
 use Rattle.fc_text.specs.TextGrammar.{Line, select_lines, message_lines, SpellsLine, SpellsLines, AreEach, ended}
 use Rattle.fc_base.specs.Answers.{◌>>=◌}
-use Rattle.fc_text.specs.TextPlaces.{TextPlace}
-use Rattle.fc_text.specs.TextReading.{Reader, many_at, some_at, select_at, whole_at, body_in}
+use Rattle.fc_lines.specs.TextPlaces.{TextPlace}
+use Rattle.fc_lines.specs.LineReading.{Reader}
+use Rattle.fc_text.specs.TextReading.{many_at, some_at, select_at, whole_at, body_in}
 use Rattle.fc_text.proofs.CompletedLines.{SameTo, Completes, pure_err}
 use Rattle.fc_text.proofs.CompletedItems.{GoesBehind, again_by, then_goes, many_goes, some_goes}
 use Rattle.fc_text.proofs.CompletedMessages.{config_has, select_item, nothing_more, closed_err, whole_reads, whole_item}

@@ -4,12 +4,12 @@ use Rattle.std.specs.List.{list_all, AllByRecursion}
 use Rattle.std.specs.Str.{bytes_eq}
 use Rattle.std.proofs.lemmas.Slice.Eq.{bytes_eq-Decides}
 use Rattle.fc_path.specs.declared.path.Key.{Key}
-use Rattle.fc_text.specs.LineWords.{WordsLeft, LinesLeft, words_left, lines_left, placed, fits_as, exactly, this_word, decimal_in, digits_in, octets_in, labelled_in, labelled_digits}
+use Rattle.fc_lines.specs.LineWords.{WordsLeft, LinesLeft, words_left, lines_left, placed, fits_as, exactly, this_word, decimal_in, digits_in, octets_in, labelled_in, labelled_digits}
 use Rattle.fc_text.specs.TextGrammar.{number, digits, octets, step_words, SpellsWord, AreEach}
 use Rattle.fc_base.specs.Answers.{◌>>=◌}
-use Rattle.fc_text.specs.TextPlaces.{TextPlace, place}
-use Rattle.fc_text.specs.TextReading.{key_in, steps_of, steps_in, code_in}
-use Rattle.fc_text.specs.WordValues.{decimal_of, digits_of, octets_of}
+use Rattle.fc_lines.specs.TextPlaces.{TextPlace, place}
+use Rattle.fc_lines.specs.LineReading.{key_in, steps_of, steps_in, code_in}
+use Rattle.fc_lines.specs.WordValues.{decimal_of, digits_of, octets_of}
 use Rattle.fc_text.proofs.Completions.{span, same_place, Goes, GoesOn, Completed, Kept, at_fault, one_kept, word_goes, ended_goes}
 use Rattle.fc_text.proofs.CompletedLines.{pure_err}
 use Rattle.fc_text.proofs.PlainWords.{word_is, words_are}

@@ -4,9 +4,9 @@ use Rattle.std.specs.List.{flat_map}
 use Rattle.fc_path.specs.Proper.{ProperSelect}
 use Rattle.fc_path.specs.declared.oper.Select.{Select}
 use Rattle.fc_msg.specs.declared.message.Message.{Message}
-use Rattle.fc_text.specs.LineWords.{lines_of, lines_left, text_lines, closed}
+use Rattle.fc_lines.specs.LineWords.{lines_of, lines_left, text_lines, closed}
 use Rattle.fc_text.specs.TextGrammar.{select_lines, message_lines, SpellsText, SpellsSelects}
-use Rattle.fc_text.specs.TextPlaces.{TextPlace}
+use Rattle.fc_lines.specs.TextPlaces.{TextPlace}
 use Rattle.fc_text.specs.TextReading.{select_at, text_in, body_in}
 use Rattle.fc_text.proofs.PlainWords.{lines_are}
 use Rattle.fc_text.proofs.ReadItems.{some_reads}

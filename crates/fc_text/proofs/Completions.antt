@@ -2,9 +2,9 @@
 use Rattle.std.proofs.Common.{◌≡◌, ◌≤◌, ◌+◌, ℕ, Bool, true, false, cond, nat_lt, ◌⊎◌, inl, inr, List, [], ◌∷◌, length, Option, Some, None, Result, Ok, Err, refl, sym, ap, subst, ◌∙◌, arith}
 use Rattle.std.specs.List.{AllByRecursion}
 use Rattle.fc_text.specs.FirstMisfit.{before}
-use Rattle.fc_text.specs.LineWords.{WordsLeft, LinesLeft, words_left, lines_left, placed, word_in, meaning, fits_as, ended as words_ended}
+use Rattle.fc_lines.specs.LineWords.{WordsLeft, LinesLeft, words_left, lines_left, placed, word_in, meaning, fits_as, ended as words_ended}
 use Rattle.fc_base.specs.Answers.{◌>>=◌}
-use Rattle.fc_text.specs.TextPlaces.{TextPlace, place}
+use Rattle.fc_lines.specs.TextPlaces.{TextPlace, place}
 use Rattle.fc_text.proofs.ReadLines.{next_word}
 use Rattle.fc_text.proofs.SplitLines.{IsWord}
 

@@ -1,5 +1,4 @@
 pub mod Answered
-pub mod Appending
 pub mod CompletedItems
 pub mod CompletedLines
 pub mod CompletedMessages
@@ -8,24 +7,14 @@ pub mod CompletedTexts
 pub mod CompletedWords
 pub mod Completeness
 pub mod Completions
-pub mod Counted
-pub mod Cutting
-pub mod Decimals
-pub mod DigitValues
 pub mod Flattening
-pub mod FrontLines
+pub mod HeadedLines
 pub mod Heartbeats
-pub mod Indents
-pub mod LineSteps
 pub mod LongMessages
 pub mod Loops
-pub mod MadeBytes
-pub mod MessagesMade
 pub mod Misfits
-pub mod Octets
 pub mod OneMisfit
 pub mod PlainWords
-pub mod QuickReads
 pub mod ReadFront
 pub mod ReadItems
 pub mod ReadLines
@@ -35,7 +24,6 @@ pub mod ReaderRefusals
 pub mod Refusals
 pub mod RefusedPlaces
 pub mod SameLines
-pub mod Shortcuts
 pub mod Shown
 pub mod SoundMessages
 pub mod SoundPaths
@@ -44,7 +32,6 @@ pub mod SoundWords
 pub mod SpelledRanges
 pub mod SpelledWords
 pub mod SplitLines
-pub mod ShowingPaths
 pub mod TextLaws
 pub mod WholeLines
 pub mod WordRefusals

@@ -4,11 +4,13 @@ use Rattle.std.specs.List.{flat_map, AllByRecursion}
 use Rattle.fc_msg.specs.Messages.{IsProper, message_fits}
 use Rattle.fc_msg.specs.declared.message.Message.{Message}
 use Rattle.fc_text.specs.FirstMisfit.{TooLongAt}
-use Rattle.fc_text.specs.LineWords.{LinesLeft, stands_at, closed, text_lines}
+use Rattle.fc_lines.specs.LineWords.{LinesLeft, stands_at, closed, text_lines}
 use Rattle.fc_text.specs.TextGrammar.{message_lines, SpellsLine, AreEach}
 use Rattle.fc_base.specs.Answers.{◌>>=◌}
-use Rattle.fc_text.specs.TextPlaces.{TextPlace, place}
-use Rattle.fc_text.specs.TextReading.{Reader, and_more, each_at, many_at, head_at, content_at, shut, message_of, whole_at, message_at, text_in}
+use Rattle.fc_lines.specs.TextPlaces.{TextPlace, place}
+use Rattle.fc_lines.specs.LineReading.{Reader, head_at}
+use Rattle.fc_lines.specs.LineReading.{shut}
+use Rattle.fc_text.specs.TextReading.{and_more, each_at, many_at, content_at, message_of, whole_at, message_at, text_in}
 use Rattle.fc_text.proofs.Completions.{same_place}
 use Rattle.fc_text.proofs.CompletedLines.{pure_err}
 use Rattle.fc_text.proofs.ReadFront.{message_front, whole_message}

@@ -1,14 +1,17 @@
 -- Reading items at one level, one step at a time.
-use Rattle.std.proofs.Common.{◌≡◌, ◌≢◌, ◌-◌, ℕ, zero, suc, ◌<◌, ◌≤◌, List, [], ◌∷◌, ◌++◌, length, true, false, cond, Result, Ok, Err, refl, sym, ap, ◌∙◌, subst, arith, append_assoc, append-nil}
+use Rattle.std.proofs.Common.{◌≡◌, ◌≢◌, ◌-◌, ℕ, zero, suc, ◌<◌, ◌≤◌, List, [], ◌∷◌, ◌++◌, length, true, false, cond, Option, Result, Ok, Err, refl, sym, ap, ◌∙◌, subst, arith, append_assoc, append-nil}
 use Rattle.fc_path.specs.declared.oper.OperKind.{OperKind}
+use Rattle.fc_path.specs.declared.path.Key.{Key}
 use Rattle.fc_path.specs.declared.path.PathData.{PathData}
 use Rattle.fc_path.specs.declared.path.Body.{Body}
 use Rattle.fc_base.specs.Answers.{◌>>=◌}
-use Rattle.fc_text.specs.TextPlaces.{TextPlace, Fails}
-use Rattle.fc_text.specs.LineWords.{LinesLeft, WordsLeft, stands_at}
-use Rattle.fc_text.specs.TextReading.{Reader, and_more, each_at, many_at, some_at, path_by, path_line, paths_by, body_at, body_by}
-use Rattle.fc_text.specs.declared.fault.TextFault.{TextFault}
-use Rattle.fc_text.specs.declared.fault.TextFault.TheVariants as faults
+use Rattle.fc_lines.specs.TextPlaces.{TextPlace, Fails}
+use Rattle.fc_lines.specs.LineWords.{LinesLeft, stands_at}
+use Rattle.fc_lines.specs.LineReading.{Reader}
+use Rattle.fc_text.specs.HeadedReading.{path_of, paths_of}
+use Rattle.fc_text.specs.TextReading.{and_more, each_at, many_at, some_at, path_line, body_at, body_by}
+use Rattle.fc_lines.specs.declared.fault.TextFault.{TextFault}
+use Rattle.fc_lines.specs.declared.fault.TextFault.TheVariants as faults
 
 pub fails_bind : {A B : Type 0} (r : Result A TextPlace) (f : A → Result B TextPlace) (e : TextFault) → Fails e r → Fails e (r >>= f)
 fails_bind r f (faults.At line column) h = ap (λ q. q >>= f) h
@@ -63,11 +66,11 @@ pub begins_some : {X : Type 0} (level : ℕ) (one : Reader X) (x : X) (empty fro
 unfolding some_at
 begins_some level one x empty front left rest is none e = begun level one x empty front rest (one left) is none e
 
-pub begins_paths : (inside : ℕ → Reader Body) (level : ℕ) (words : WordsLeft) (x : PathData) (empty front : List PathData) (left rest : LinesLeft) → path_by inside level words left ≡ Ok (x, rest) → empty ≡ [] → front ≡ empty ++ x ∷ []
-    → Going level (path_line inside level) front rest (paths_by inside level words left)
-unfolding paths_by
-begins_paths inside level words x empty front left rest is none e =
-    begun level (path_line inside level) x empty front rest (path_by inside level words left) is none e
+pub begins_paths : (inside : ℕ → Reader Body) (level : ℕ) (steps : List ℕ × Option Key) (x : PathData) (empty front : List PathData) (left rest : LinesLeft) → path_of inside level steps left ≡ Ok (x, rest) → empty ≡ [] → front ≡ empty ++ x ∷ []
+    → Going level (path_line inside level) front rest (paths_of inside level steps left)
+unfolding paths_of
+begins_paths inside level steps x empty front left rest is none e =
+    begun level (path_line inside level) x empty front rest (path_of inside level steps left) is none e
 
 module _ {X : Type 0} (level : ℕ) (one : Reader X) (front : List X) (left : LinesLeft) (all : Result (List X × LinesLeft) TextPlace) where
   goes_by : (fuel : ℕ) (next : List X) (rest : LinesLeft) (x : X) → length left.lines ≤ fuel → (each_at fuel level one left >>= behind front) ≡ all

@@ -6,11 +6,12 @@ use Rattle.fc_path.specs.declared.oper.Select.{Select}
 use Rattle.fc_msg.specs.Messages.{IsProper}
 use Rattle.fc_msg.specs.declared.message.Message.{Message}
 use Rattle.fc_text.specs.FirstMisfit.{RestAt, TextsAt, FitsMessages, FitsSelects, IsColumn, IsWithin, TooLongAt}
-use Rattle.fc_text.specs.LineWords.{LinesLeft, lines_of, lines_left, text_lines, none_left, closed}
+use Rattle.fc_lines.specs.LineWords.{LinesLeft, lines_of, lines_left, text_lines, none_left, closed}
 use Rattle.fc_text.specs.TextGrammar.{message_lines, SpellsLine, AreEach}
 use Rattle.fc_base.specs.Answers.{◌>>=◌}
-use Rattle.fc_text.specs.TextPlaces.{TextPlace, place}
-use Rattle.fc_text.specs.TextReading.{Reader, some_at, select_at, whole_at, text_in, body_in}
+use Rattle.fc_lines.specs.TextPlaces.{TextPlace, place}
+use Rattle.fc_lines.specs.LineReading.{Reader}
+use Rattle.fc_text.specs.TextReading.{some_at, select_at, whole_at, text_in, body_in}
 use Rattle.fc_text.proofs.Completeness.{spelled_body_is_read}
 use Rattle.fc_text.proofs.CompletedMessages.{whole_reads}
 use Rattle.fc_text.proofs.LongMessages.{all_whole, whole_or_long}

@@ -4,9 +4,9 @@ use Rattle.std.specs.List.{flat_map, AllByRecursion}
 use Rattle.std.proofs.lemmas.Bool.{ltb-true, ltb-false}
 use Rattle.std.proofs.lemmas.List.{take-take}
 use Rattle.fc_text.specs.FirstMisfit.{SameAt, RestBefore, RestAt, TextsBefore, TextsAt, FirstMisfit, FitsMessages, FitsSelects, IsColumn, IsWithin}
-use Rattle.fc_text.specs.LineWords.{lines_of}
+use Rattle.fc_lines.specs.LineWords.{lines_of}
 use Rattle.fc_text.specs.TextGrammar.{Line, select_lines, message_lines, SpellsWord, SpellsLine, AreEach}
-use Rattle.fc_text.specs.TextPlaces.{TextPlace, place}
+use Rattle.fc_lines.specs.TextPlaces.{TextPlace, place}
 use Rattle.fc_text.proofs.PlainWords.{Whole, words_are, same_number, lines_are}
 use Rattle.fc_text.proofs.Refusals.{first_line}
 use Rattle.fc_text.proofs.SameLines.{IsFull, line_full, same_at}

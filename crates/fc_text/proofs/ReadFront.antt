@@ -7,11 +7,13 @@ use Rattle.fc_path.specs.declared.oper.OperKind.{OperKind}
 use Rattle.fc_path.specs.declared.path.Body.{Body}
 use Rattle.fc_msg.specs.Messages.{message_fits}
 use Rattle.fc_msg.specs.declared.message.Message.{Message}
-use Rattle.fc_text.specs.declared.reading.Head.{Head}
-use Rattle.fc_text.specs.LineWords.{WordItem, WordsLeft, LinesLeft, words_from, lines_left, spaces_before, stands_at, line_of, line_at, none_left, closed}
+use Rattle.fc_lines.specs.declared.said.Head.{Head}
+use Rattle.fc_lines.specs.LineWords.{WordItem, WordsLeft, LinesLeft, words_from, lines_left, spaces_before, stands_at, line_of, line_at, none_left, closed}
 use Rattle.fc_base.specs.Answers.{◌>>=◌}
-use Rattle.fc_text.specs.TextPlaces.{TextPlace, place}
-use Rattle.fc_text.specs.TextReading.{Reader, and_more, many_at, some_at, each_at, ilv_at, outcome_at, leaf_in, path_by, path_line, paths_by, last_body, body_by, body_at, operation_paths_at, operation_at, oper_at, select_at, number_at, content_at, head_at, shut, message_of, whole_at, message_at}
+use Rattle.fc_lines.specs.TextPlaces.{TextPlace, place}
+use Rattle.fc_lines.specs.LineReading.{Reader, ilv_at, outcome_at, number_at, head_at}
+use Rattle.fc_lines.specs.LineReading.{shut}
+use Rattle.fc_text.specs.TextReading.{and_more, many_at, some_at, each_at, leaf_in, path_by, path_line, paths_by, last_body, body_by, body_at, operation_paths_at, operation_at, oper_at, select_at, content_at, message_of, whole_at, message_at}
 use Rattle.fc_text.proofs.SoundWords.{bind_ok, same_pair}
 
 -- the indentation of the next line

@@ -1,9 +1,10 @@
 -- Items whose lines stand one after the other are read, while the next line stands at their level.
 use Rattle.std.proofs.Common.{◌≡◌, ◌<◌, ◌≤◌, ◌*◌, ℕ, zero, suc, true, false, List, [], ◌∷◌, ◌++◌, length, Ok, append_assoc, refl, sym, ap, subst, ◌∙◌, arith, length-append, eq-eqb, ne_eqb}
 use Rattle.std.specs.List.{flat_map, AllByRecursion}
-use Rattle.fc_text.specs.LineWords.{lines_left, stands_at, spaces_before}
+use Rattle.fc_lines.specs.LineWords.{lines_left, stands_at, spaces_before}
 use Rattle.fc_text.specs.TextGrammar.{Line, SpellsLine, AreEach}
-use Rattle.fc_text.specs.TextReading.{Reader, each_at, many_at, some_at}
+use Rattle.fc_lines.specs.LineReading.{Reader}
+use Rattle.fc_text.specs.TextReading.{each_at, many_at, some_at}
 use Rattle.fc_text.proofs.PlainWords.{Whole}
 use Rattle.fc_text.proofs.ReadLines.{Gives, spaces_are}
 

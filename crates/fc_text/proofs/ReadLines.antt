@@ -7,13 +7,13 @@ use Rattle.std.proofs.lemmas.Fmt.{decimal_is_IsNumeral}
 use Rattle.std.proofs.lemmas.Slice.Eq.{bytes_eq-Decides}
 use Rattle.fc_wire.specs.declared.ilvs.Ilv.{Ilv}
 use Rattle.fc_path.specs.declared.path.Key.{Key}
-use Rattle.fc_text.specs.LineWords.{WordsLeft, LinesLeft, words_left, lines_left, placed, spaces_before, line_at, word_in, meaning, fits_as, ended, exactly, this_word, decimal_in, digits_in, octets_in, labelled_in, labelled_digits}
+use Rattle.fc_lines.specs.LineWords.{WordsLeft, LinesLeft, words_left, lines_left, placed, spaces_before, line_at, word_in, meaning, fits_as, ended, exactly, this_word, decimal_in, digits_in, octets_in, labelled_in, labelled_digits}
 use Rattle.fc_text.specs.Text.{indent}
 use Rattle.fc_text.specs.TextGrammar.{Word, Line, line, name, number, digits, octets, parted, step_words, ilv_line, code_line, SpellsDigits, SpellsWord, SpellsLine, AreEach}
 use Rattle.fc_base.specs.Answers.{◌>>=◌}
-use Rattle.fc_text.specs.TextPlaces.{TextPlace, place}
-use Rattle.fc_text.specs.TextReading.{key_in, steps_of, steps_in, ilv_at, code_in, outcome_at}
-use Rattle.fc_text.specs.WordValues.{decimal_of, digits_of, octets_of}
+use Rattle.fc_lines.specs.TextPlaces.{TextPlace, place}
+use Rattle.fc_lines.specs.LineReading.{key_in, steps_of, steps_in, ilv_at, code_in, outcome_at}
+use Rattle.fc_lines.specs.WordValues.{decimal_of, digits_of, octets_of}
 use Rattle.fc_text.proofs.PlainWords.{Named, Whole, words_are, same_number}
 use Rattle.fc_text.proofs.SpelledWords.{same_bytes, decimal_read, digits_read, octets_read, labelled_read}
 use Rattle.fc_text.proofs.SplitLines.{IsWord, words_back, behind_indent, spaces_of}

@@ -16,12 +16,14 @@ use Rattle.fc_msg.specs.Reading.{flags_in}
 use Rattle.fc_msg.specs.declared.message.Message.{Message}
 use Rattle.fc_msg.specs.declared.message.MsgBody.{MsgBody}
 use Rattle.fc_msg.specs.declared.message.MsgBody.TheVariants.{Setup, SetupResponse, Teardown, Config, ConfigResponse, Query, QueryResponse, Event, Heartbeat}
-use Rattle.fc_text.specs.LineWords.{lines_left, lines_of, spaces_before, text_lines, closed}
+use Rattle.fc_lines.specs.LineWords.{lines_left, lines_of, spaces_before, text_lines, closed}
 use Rattle.fc_text.specs.Text.{body_name, kind_name}
 use Rattle.fc_text.specs.TextGrammar.{Word, Line, line, name, number, digits, flags, name_line, code_line, path_lines, oper_lines, select_lines, head_line, number_line, content_lines, message_lines, SpellsWord, SpellsLine, AreEach}
-use Rattle.fc_text.specs.declared.reading.Head.{Head}
-use Rattle.fc_text.specs.TextReading.{many_at, some_at, operation_at, number_named, operation_named, operation_in, oper_at, select_at, number_at, content_at, message_named, type_in, head_at, shut, message_of, whole_at, message_at, text_in}
-use Rattle.fc_text.specs.WordValues.{given}
+use Rattle.fc_lines.specs.declared.said.Head.{Head}
+use Rattle.fc_lines.specs.LineReading.{number_named, operation_named, operation_in, number_at, message_named, type_in, head_at}
+use Rattle.fc_lines.specs.LineReading.{shut}
+use Rattle.fc_text.specs.TextReading.{many_at, some_at, operation_at, oper_at, select_at, content_at, message_of, whole_at, message_at, text_in}
+use Rattle.fc_lines.specs.WordValues.{given}
 use Rattle.fc_text.proofs.PlainWords.{Whole}
 use Rattle.fc_text.proofs.ReadLines.{Gives, begin, took, took_name, took_number, took_digits, took_labelled, none_left, outcome_read, alone}
 use Rattle.fc_text.proofs.ReadItems.{Before, Begins, before_more, many_reads, some_reads}

@@ -13,10 +13,11 @@ use Rattle.fc_path.specs.declared.path.Body.{Body, out-Body, roll-Body, the_lemm
 use Rattle.fc_path.specs.declared.path.Body.TheOpen.{Body-F}
 use Rattle.fc_path.specs.declared.path.Body.TheVariants as v
 use Rattle.fc_path.specs.declared.path.Body.TheViews.{roll-out-Body}
-use Rattle.fc_text.specs.LineWords.{WordsLeft, LinesLeft, WordItem, words_left, lines_left, placed, line_at, word_in}
+use Rattle.fc_lines.specs.LineWords.{WordsLeft, LinesLeft, WordItem, words_left, lines_left, placed, line_at, word_in}
 use Rattle.fc_text.specs.TextGrammar.{Word, Line, LinesAt, line, name, digits, octets, step_words, ilv_line, code_line, body_step, path_step, body_lines, path_lines, SpellsWord, SpellsLine, AreEach}
-use Rattle.fc_text.specs.TextPlaces.{TextPlace}
-use Rattle.fc_text.specs.TextReading.{Reader, ilv_at, leaf_in, path_by, path_line, paths_by, last_body, body_by, body_at, operation_paths_at}
+use Rattle.fc_lines.specs.TextPlaces.{TextPlace}
+use Rattle.fc_lines.specs.LineReading.{Reader, ilv_at}
+use Rattle.fc_text.specs.TextReading.{leaf_in, path_by, path_line, paths_by, last_body, body_by, body_at, operation_paths_at}
 use Rattle.fc_text.proofs.PlainWords.{Named, Whole}
 use Rattle.fc_text.proofs.ReadLines.{Gives, begin, took_name, took_octets, none_left, steps_read, code_read, ilv_read, alone, ilv_whole}
 use Rattle.fc_text.proofs.ReadItems.{Before, Begins, not_there, before_more, each_split, stands, many_reads, follows}

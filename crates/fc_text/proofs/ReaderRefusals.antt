@@ -7,11 +7,12 @@ use Rattle.fc_path.specs.declared.kinds.Operation.TheVariants as operation
 use Rattle.fc_path.specs.declared.oper.OperKind.{OperKind}
 use Rattle.fc_path.specs.declared.path.Key.{Key}
 use Rattle.fc_path.specs.declared.path.Body.{Body}
-use Rattle.fc_text.specs.LineWords.{WordItem, WordsLeft, words_left, stands_at, none_left, ended, ended_of}
+use Rattle.fc_lines.specs.LineWords.{WordItem, WordsLeft, words_left, stands_at, none_left, ended, ended_of}
 use Rattle.fc_base.specs.Answers.{◌>>=◌}
-use Rattle.fc_text.specs.TextPlaces.{TextPlace, place}
-use Rattle.fc_text.specs.TextReading.{Reader, many_at, some_at, key_in, steps_of, steps_in, code_in, ilv_at, outcome_at, leaf_in, path_by, path_line, paths_by, last_body, body_by, body_at, operation_paths_at, operation_at, oper_at, select_at, number_at, content_at, head_at, message_of, whole_at}
-use Rattle.fc_text.specs.WordValues.{decimal_of}
+use Rattle.fc_lines.specs.TextPlaces.{TextPlace, place}
+use Rattle.fc_lines.specs.LineReading.{Reader, key_in, steps_of, steps_in, code_in, ilv_at, outcome_at, number_at, head_at}
+use Rattle.fc_text.specs.TextReading.{many_at, some_at, leaf_in, path_by, path_line, paths_by, last_body, body_by, body_at, operation_paths_at, operation_at, oper_at, select_at, content_at, message_of, whole_at}
+use Rattle.fc_lines.specs.WordValues.{decimal_of}
 use Rattle.fc_text.proofs.ReadFront.{Front, stands_looks, none_looks, ilv_front, ilv_shrinks, ilvs_front, outcome_front, path_by_front, path_line_front, path_line_shrinks, paths_front, paths_by_front, body_front, operation_paths_front, oper_front, oper_shrinks, opers_front, select_front, select_shrinks, selects_front, some_selects_front, number_front, content_front, head_front, shut_with, shut_by, shut_is, whole_front, whole_shrinks}
 use Rattle.fc_text.proofs.Refusals.{Fails, fails_as_at, fails_here, fails_and_more, many_fails, some_fails, bind_err, fails_pure, fails_bind, fails_if, fails_choice}
 use Rattle.fc_text.proofs.WordRefusals.{FailsIn, word_fits, word_unfit, word_none, word_first, word_missing, word_behind, FailsPure, FailsItem, WordFails, Means, err_is, fails_line, in_word, in_ended, in_pure, in_bind, in_item, item_in, item_if, item_err, exactly_means, decimal_means, digits_means, octets_means, labelled_means, operation_means, type_means}

@@ -1,10 +1,11 @@
 -- Where a reader refuses lines, it refuses all lines that are the same before that place and at it, there too.
 use Rattle.std.proofs.Common.{◌≡◌, ◌<◌, ◌≤◌, ◌+◌, ℕ, zero, suc, Bool, true, false, cond, List, [], ◌∷◌, ◌++◌, length, Some, Result, Ok, Err, append_assoc, length-append, refl, sym, ap, subst, ◌∙◌, arith, inl}
 use Rattle.fc_text.specs.FirstMisfit.{RestAt, IsColumn}
-use Rattle.fc_text.specs.LineWords.{LinesLeft, lines_left, stands_at}
+use Rattle.fc_lines.specs.LineWords.{LinesLeft, lines_left, stands_at}
 use Rattle.fc_base.specs.Answers.{◌>>=◌}
-use Rattle.fc_text.specs.TextPlaces.{TextPlace, place}
-use Rattle.fc_text.specs.TextReading.{Reader, and_more, many_at, some_at}
+use Rattle.fc_lines.specs.TextPlaces.{TextPlace, place}
+use Rattle.fc_lines.specs.LineReading.{Reader}
+use Rattle.fc_text.specs.TextReading.{and_more, many_at, some_at}
 use Rattle.fc_text.proofs.ReadFront.{ReadFront, Front, Shrinks, Looks, next_indent, next_behind, stands_looks, many_step, next_item, items_by, many_front}
 
 -- the first of lines that may have none

@@ -4,10 +4,10 @@ use Rattle.std.specs.List.{flat_map, AllByRecursion}
 use Rattle.fc_path.specs.declared.oper.Select.{Select}
 use Rattle.fc_msg.specs.declared.message.Message.{Message}
 use Rattle.fc_text.specs.FirstMisfit.{FirstMisfit, FitsMessages, FitsSelects, IsWithin, TooLongAt}
-use Rattle.fc_text.specs.LineWords.{lines_left, text_lines, spaces_before, stands_at, closed}
+use Rattle.fc_lines.specs.LineWords.{lines_left, text_lines, spaces_before, stands_at, closed}
 use Rattle.fc_text.specs.TextGrammar.{message_lines, SpellsLine, AreEach}
 use Rattle.fc_base.specs.Answers.{◌>>=◌}
-use Rattle.fc_text.specs.TextPlaces.{TextPlace, place}
+use Rattle.fc_lines.specs.TextPlaces.{TextPlace, place}
 use Rattle.fc_text.specs.TextReading.{many_at, message_at, text_in, body_in}
 use Rattle.fc_text.proofs.CompletedMessages.{whole_reads}
 use Rattle.fc_text.proofs.CompletedTexts.{text_begins, body_begins}

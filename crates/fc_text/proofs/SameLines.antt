@@ -3,10 +3,10 @@ use Rattle.std.proofs.Common.{◌≡◌, ◌==◌, ◌<◌, ◌≤◌, ◌+◌, 
 use Rattle.std.specs.List.{flat_map, AllByRecursion}
 use Rattle.std.proofs.lemmas.Bool.{lt-ltb, ltb-true, le-ltb, ltb-false}
 use Rattle.fc_text.specs.FirstMisfit.{words_on, before, word_at, SameBefore, SameAt, IsColumn}
-use Rattle.fc_text.specs.LineWords.{WordItem, words_of, placed, spaces_before}
+use Rattle.fc_lines.specs.LineWords.{WordItem, words_of, placed, spaces_before}
 use Rattle.fc_text.specs.Text.{indent}
 use Rattle.fc_text.specs.TextGrammar.{behind_space, parted}
-use Rattle.fc_text.proofs.LineSteps.{spaces_fit}
+use Rattle.fc_lines.proofs.LineSteps.{spaces_fit}
 use Rattle.fc_text.proofs.SoundWords.{parted_words, words_some, spaces_sound}
 use Rattle.fc_text.proofs.SplitLines.{IsWord, words_back, behind_indent, spaces_of}
 

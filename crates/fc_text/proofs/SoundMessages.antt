@@ -18,13 +18,15 @@ use Rattle.fc_msg.specs.declared.message.Message.{Message}
 use Rattle.fc_msg.specs.declared.message.MsgBody.{MsgBody}
 use Rattle.fc_msg.specs.declared.message.MsgBody.TheVariants.{Setup, SetupResponse, Teardown, Config, ConfigResponse, Query, QueryResponse, Event, Heartbeat}
 use Rattle.fc_wire.specs.Flags.{FlagValues}
-use Rattle.fc_text.specs.LineWords.{WordsLeft, LinesLeft, lines_of, text_lines, line_at, closed, none_left, ended as words_ended, exactly, decimal_in, digits_in, labelled_in}
+use Rattle.fc_lines.specs.LineWords.{WordsLeft, LinesLeft, lines_of, text_lines, line_at, closed, none_left, ended as words_ended, exactly, decimal_in, digits_in, labelled_in}
 use Rattle.fc_text.specs.Text.{body_name, kind_name}
 use Rattle.fc_text.specs.TextGrammar.{Word, Line, name, number, digits, flags, code_line, path_lines, oper_lines, select_lines, number_line, content_lines, message_lines, SpellsWord, SpellsLine, SpellsText, SpellsSelects, AreEach, AreLines}
 use Rattle.fc_base.specs.Answers.{◌>>=◌}
-use Rattle.fc_text.specs.TextPlaces.{TextPlace, place}
-use Rattle.fc_text.specs.declared.reading.Head.{Head}
-use Rattle.fc_text.specs.TextReading.{many_at, some_at, outcome_at, operation_paths_at, operation_at, number_named, operation_named, operation_in, oper_at, select_at, number_at, content_at, message_named, type_in, head_at, shut, message_of, whole_at, message_at, text_in, body_in}
+use Rattle.fc_lines.specs.TextPlaces.{TextPlace, place}
+use Rattle.fc_lines.specs.declared.said.Head.{Head}
+use Rattle.fc_lines.specs.LineReading.{outcome_at, number_named, operation_named, operation_in, number_at, message_named, type_in, head_at}
+use Rattle.fc_lines.specs.LineReading.{shut}
+use Rattle.fc_text.specs.TextReading.{many_at, some_at, operation_paths_at, operation_at, oper_at, select_at, content_at, message_of, whole_at, message_at, text_in, body_in}
 use Rattle.fc_text.proofs.SoundValues.{given_some, same_some}
 use Rattle.fc_text.proofs.SoundWords.{bind_ok, same_ok, same_pair, texts, Step, Taken, Found, meaning_sound, exactly_sound, number_sound, digits_sound, label_sound, outcome_sound, line_sound, lines_sound, no_more, one_more, one_line, and_lines}
 use Rattle.fc_text.proofs.SoundPaths.{found_none, many_sound, some_sound, operation_paths_sound}
@@ -316,7 +318,7 @@ pub record IsHead (h : Head) (left rest : LinesLeft) : Type 0 where
 abbrev head : ℕ → ℕ → ℕ → ℕ → ℕ → Head
 head kind source dest corr word = record { kind = kind; source = source; dest = dest; corr = corr; flags = word }
 
-head_sound : (left : LinesLeft) (h : Head) (rest : LinesLeft) → head_at left ≡ Ok (h, rest) → IsHead h left rest
+pub head_sound : (left : LinesLeft) (h : Head) (rest : LinesLeft) → head_at left ≡ Ok (h, rest) → IsHead h left rest
 unfolding head_at type_in
 head_sound left h rest e =
     bind_ok (line_at 0 left) _ (h, rest) e λ l is1 e1.

@@ -12,11 +12,12 @@ use Rattle.fc_path.specs.declared.path.Body.{Body, out-Body, roll-Body}
 use Rattle.fc_path.specs.declared.path.Body.TheOpen.{Body-F}
 use Rattle.fc_path.specs.declared.path.Body.TheVariants as v
 use Rattle.fc_path.specs.declared.path.Body.TheViews.{out-roll-Body}
-use Rattle.fc_text.specs.LineWords.{WordItem, WordsLeft, LinesLeft, words_left, stands_at, line_at, word_of, word_in, ended as words_ended, exactly, octets_in}
+use Rattle.fc_lines.specs.LineWords.{WordItem, WordsLeft, LinesLeft, words_left, stands_at, line_at, word_of, word_in, ended as words_ended, exactly, octets_in}
 use Rattle.fc_text.specs.TextGrammar.{Line, name, octets, digits, step_words, ilv_line, body_lines, path_lines, SpellsWord, SpellsLine, AreEach}
 use Rattle.fc_base.specs.Answers.{◌>>=◌}
-use Rattle.fc_text.specs.TextPlaces.{TextPlace, place}
-use Rattle.fc_text.specs.TextReading.{Reader, and_more, each_at, many_at, some_at, ilv_at, steps_in, code_in, leaf_in, path_data, path_by, path_line, paths_by, last_body, body_by, body_at, operation_paths_at}
+use Rattle.fc_lines.specs.TextPlaces.{TextPlace, place}
+use Rattle.fc_lines.specs.LineReading.{Reader, ilv_at, steps_in, code_in}
+use Rattle.fc_text.specs.TextReading.{and_more, each_at, many_at, some_at, leaf_in, path_data, path_by, path_line, paths_by, last_body, body_by, body_at, operation_paths_at}
 use Rattle.fc_text.proofs.ReadPaths.{layer_lines, layer_is, path_lines_are, one_each}
 use Rattle.fc_text.proofs.SoundWords.{bind_ok, same_pair, item_text, texts, Step, Taken, Found, exactly_sound, bytes_sound, steps_sound, code_sound, ilv_sound, line_sound, no_more, one_more, one_line, and_lines}
 

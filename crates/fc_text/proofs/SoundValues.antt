@@ -11,10 +11,10 @@ use Rattle.std.proofs.lemmas.List.{take-append-drop}
 use Rattle.std.proofs.lemmas.Slice.Eq.{bytes_eq-Decides}
 use Rattle.fc_base.specs.Hex.{hex, hex_digit, hex_text}
 use Rattle.fc_wire.specs.Bytes.{AreBytes}
-use Rattle.fc_text.specs.LineWords.{this_word, behind_label, labelled_digits}
+use Rattle.fc_lines.specs.LineWords.{this_word, behind_label, labelled_digits}
 use Rattle.fc_text.specs.Text.{bytes_text}
 use Rattle.fc_text.specs.TextGrammar.{SpellsDigits}
-use Rattle.fc_text.specs.WordValues.{given, digit_of, hexadecimal, digits_of, decimal_digit as digit_ten, below, decimals, decimal_of, pairs_of, octets_of}
+use Rattle.fc_lines.specs.WordValues.{given, digit_of, hexadecimal, digits_of, decimal_digit as digit_ten, below, decimals, decimal_of, pairs_of, octets_of}
 use Rattle.fc_text.proofs.SpelledWords.{are_hexadecimal, hex_suc, hex_zero, digit_below, digit_in_upper_case}
 
 pub given_some : {A B : Type 0} (o : Option A) (f : A → Option B) (y : B) → given o f ≡ Some y → (x : A) × (o ≡ Some x) × (f x ≡ Some y)

@@ -4,13 +4,13 @@ use Rattle.std.specs.Str.{bytes_eq}
 use Rattle.std.proofs.lemmas.Slice.Eq.{bytes_eq-Decides}
 use Rattle.fc_path.specs.declared.path.Key.{Key}
 use Rattle.fc_wire.specs.declared.ilvs.Ilv.{Ilv}
-use Rattle.fc_text.specs.LineWords.{WordItem, WordsLeft, LinesLeft, in_front, lines_of, words_of, words_left, lines_left, words_from, placed, spaces_before, line_of, line_at, word_in, meaning, fits_as, ended_of, ended as words_ended, exactly, this_word, decimal_in, digits_in, octets_in, labelled_in, labelled_digits}
+use Rattle.fc_lines.specs.LineWords.{WordItem, WordsLeft, LinesLeft, in_front, lines_of, words_of, words_left, lines_left, words_from, placed, spaces_before, line_of, line_at, word_in, meaning, fits_as, ended_of, ended as words_ended, exactly, this_word, decimal_in, digits_in, octets_in, labelled_in, labelled_digits}
 use Rattle.fc_text.specs.Text.{indent}
 use Rattle.fc_text.specs.TextGrammar.{Word, Line, line, name, number, digits, octets, parted, step_words, ilv_line, code_line, SpellsWord, SpellsLine, AreEach, AreLines}
 use Rattle.fc_base.specs.Answers.{◌>>=◌}
-use Rattle.fc_text.specs.TextPlaces.{TextPlace, place}
-use Rattle.fc_text.specs.TextReading.{key_in, steps_of, steps_in, code_in, ilv_at, outcome_at}
-use Rattle.fc_text.specs.WordValues.{decimal_of, digits_of, octets_of}
+use Rattle.fc_lines.specs.TextPlaces.{TextPlace, place}
+use Rattle.fc_lines.specs.LineReading.{key_in, steps_of, steps_in, code_in, ilv_at, outcome_at}
+use Rattle.fc_lines.specs.WordValues.{decimal_of, digits_of, octets_of}
 use Rattle.fc_text.proofs.SoundValues.{name_sound, plain_sound, labelled_sound, octets_sound, decimal_sound}
 
 -- a step that succeeded, and what follows

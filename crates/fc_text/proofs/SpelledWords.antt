@@ -14,10 +14,10 @@ use Rattle.std.proofs.lemmas.List.Folds.{list_all-append}
 use Rattle.std.proofs.lemmas.Slice.Eq.{bytes_eq-Decides}
 use Rattle.fc_base.specs.Hex.{hex, hex_digit, hex_text}
 use Rattle.fc_wire.specs.Bytes.{AreBytes}
-use Rattle.fc_text.specs.LineWords.{labelled_digits}
+use Rattle.fc_lines.specs.LineWords.{labelled_digits}
 use Rattle.fc_text.specs.Text.{bytes_text}
 use Rattle.fc_text.specs.TextGrammar.{SpellsDigits}
-use Rattle.fc_text.specs.WordValues.{given, digit_of, hexadecimal, digits_of, decimal_digit as digit_ten, below, decimals, decimal_of, pairs_of, octets_of}
+use Rattle.fc_lines.specs.WordValues.{given, digit_of, hexadecimal, digits_of, decimal_digit as digit_ten, below, decimals, decimal_of, pairs_of, octets_of}
 
 -- a name
 pub same_bytes : (text : List ℕ) → bytes_eq text text ≡ true

@@ -4,7 +4,7 @@ use Rattle.std.specs.List.{flat_map, list_all, AllByRecursion}
 use Rattle.std.proofs.lemmas.Bool.{and_parts}
 use Rattle.std.proofs.lemmas.List.{append_cancel_right, drop_at}
 use Rattle.std.proofs.lemmas.List.Folds.{list_all-append}
-use Rattle.fc_text.specs.LineWords.{in_front, lines_of, words_of, spaces_before}
+use Rattle.fc_lines.specs.LineWords.{in_front, lines_of, words_of, spaces_before}
 use Rattle.fc_text.specs.Text.{indent}
 use Rattle.fc_text.specs.TextGrammar.{behind_space, parted, ended, AreLines}
 

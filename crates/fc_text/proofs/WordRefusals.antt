@@ -1,11 +1,11 @@
 -- Where a reader of words refuses a line, it refuses all lines that are the same before that place and at it, there too.
 use Rattle.std.proofs.Common.{◌≡◌, ◌<◌, ◌≤◌, ◌+◌, ◌*◌, ◌==◌, ◌⊎◌, ℕ, Bool, true, false, cond, List, [], ◌∷◌, ◌++◌, length, drop, Option, Some, None, Result, Ok, Err, inl, inr, refl, sym, ap, subst, ◌∙◌, arith, eqb-true, eq-eqb}
 use Rattle.fc_text.specs.FirstMisfit.{RestAt, SameAt, IsColumn, word_at, words_on}
-use Rattle.fc_text.specs.LineWords.{WordItem, WordsLeft, LinesLeft, words_of, words_left, words_from, lines_left, spaces_before, line_at, word_of, word_in, ended_of, ended, fits_as, meaning, exactly, this_word, decimal_in, digits_in, octets_in, labelled_in, labelled_digits}
+use Rattle.fc_lines.specs.LineWords.{WordItem, WordsLeft, LinesLeft, words_of, words_left, words_from, lines_left, spaces_before, line_at, word_of, word_in, ended_of, ended, fits_as, meaning, exactly, this_word, decimal_in, digits_in, octets_in, labelled_in, labelled_digits}
 use Rattle.fc_base.specs.Answers.{◌>>=◌}
-use Rattle.fc_text.specs.TextPlaces.{TextPlace, place}
-use Rattle.fc_text.specs.TextReading.{Reader, operation_in, operation_named, type_in, message_named}
-use Rattle.fc_text.specs.WordValues.{decimal_of, digits_of, octets_of}
+use Rattle.fc_lines.specs.TextPlaces.{TextPlace, place}
+use Rattle.fc_lines.specs.LineReading.{Reader, operation_in, operation_named, type_in, message_named}
+use Rattle.fc_lines.specs.WordValues.{decimal_of, digits_of, octets_of}
 use Rattle.fc_text.proofs.ReadFront.{Front, front_line_at}
 use Rattle.fc_text.proofs.SameLines.{same_until, same_line, same_placed, column_within, line_word, size_is}
 use Rattle.fc_text.proofs.Refusals.{LineFails, Fails, bind_err, fails_first_at, fails_then_at, fails_as_at}

@@ -5,9 +5,9 @@ use Rattle.std.specs.List.{flat_map, AllByRecursion}
 use Rattle.fc_path.specs.declared.oper.Select.{Select}
 use Rattle.fc_msg.specs.Messages.{IsProper, message_fits}
 use Rattle.fc_msg.specs.declared.message.Message.{Message}
-use Rattle.fc_text.specs.LineWords.{WordItem, lines_of, placed, spaces_before, stands_at, words_of}
+use Rattle.fc_lines.specs.LineWords.{WordItem, lines_of, placed, spaces_before, stands_at, words_of}
 use Rattle.fc_text.specs.TextGrammar.{AreEach, SpellsLine, SpellsLines, SpellsSelects, message_lines}
-use Rattle.fc_text.specs.TextPlaces.{TextPlace}
+use Rattle.fc_lines.specs.TextPlaces.{TextPlace}
 
 -- the words of a line behind its indentation, with their columns
 abbrev pub words_on : List ℕ → List WordItem

@@ -1,10 +1,5 @@
-pub mod Appending
 pub mod FirstMisfit
-pub mod InFront
-pub mod LineWords
-pub mod Making
+pub mod HeadedReading
 pub mod Text
 pub mod TextGrammar
-pub mod TextPlaces
 pub mod TextReading
-pub mod WordValues

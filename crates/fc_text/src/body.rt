@@ -3,13 +3,12 @@ ghost use Rattle.std.specs.Prelude.{◌≡◌, IfOk, Ok, List as Listed};
 ghost use Rattle.fc_path.specs.declared.oper.Select.{Select as Spelled};
 ghost use Rattle.fc_text.specs.FirstMisfit.{FirstMisfit, FitsSelects, IsWithin};
 ghost use Rattle.fc_text.specs.TextGrammar.{SpellsSelects};
-ghost use Rattle.fc_text.specs.TextPlaces.{Gives, RefusedAt};
+ghost use Rattle.fc_lines.specs.TextPlaces.{Gives, RefusedAt};
 ghost use Rattle.fc_text.specs.TextReading.{body_in};
 
-use crate::TextFault;
-use crate::lines::Lines;
 use crate::read_select::read_some_selects;
 use fc_base::List;
+use fc_lines::{Lines, TextFault};
 use fc_msg::CONFIG;
 use fc_path::Select;
 use std::alloc::Global;

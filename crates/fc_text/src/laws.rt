@@ -8,7 +8,7 @@ ghost use Rattle.fc_msg.specs.declared.message.Message.{Message};
 ghost use Rattle.fc_text.specs.FirstMisfit.{FirstMisfit, FitsMessages, FitsSelects, IsWithin, TooLongAt};
 ghost use Rattle.fc_text.specs.Text.{message_text};
 ghost use Rattle.fc_text.specs.TextGrammar.{HasText, SpellsSelects, SpellsText};
-ghost use Rattle.fc_text.specs.TextPlaces.{TextPlace};
+ghost use Rattle.fc_lines.specs.TextPlaces.{TextPlace};
 ghost use Rattle.fc_text.specs.TextReading.{body_in, text_in};
 
 /// Reading gives messages exactly where the bytes are a text of them, and no bytes are a text of two lists of messages.

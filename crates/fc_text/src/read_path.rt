@@ -1,62 +1,67 @@
-// Reading PATH-DATA from lines.
-ghost use Rattle.std.specs.Prelude.{◌≡◌, ◌≤◌, ◌<◌, ◌+◌, ◌&&◌, not, length, OnOk};
-ghost use Rattle.fc_text.specs.TextPlaces.{Gives, Reads};
-ghost use Rattle.fc_path.specs.Kinds.{takes_nothing};
-ghost use Rattle.fc_text.specs.LineWords.{stands_at};
-ghost use Rattle.fc_text.specs.TextReading.{body_at, body_by, code_in, ilv_at, key_in, last_body, leaf_in, many_at, outcome_at, path_by, path_line, paths_by, steps_in};
+// Building PATH-DATA from what lines say.
+ghost use Rattle.std.specs.Prelude.{◌≡◌, ◌≤◌, ◌<◌, ◌+◌, length, option_map, IfOk, OnOk};
+ghost use Rattle.fc_lines.specs.LineReading.{body_said, ilv_at, key_of, leaf_said, outcome_at, steps_said};
+ghost use Rattle.fc_lines.specs.TextPlaces.{Reads};
+ghost use Rattle.fc_text.specs.HeadedReading.{body_of, leaf_of, path_of, paths_of};
+ghost use Rattle.fc_text.specs.TextReading.{body_at, body_by, last_body, many_at, path_line as path_at};
 
-use crate::TextFault;
-use crate::lines::Lines;
-use crate::values::decimal_of;
-use crate::words::{Word, Words, is};
-use fc_base::{Code, List};
+use fc_base::{Code, List, Memory, Octets};
+use fc_lines::{
+    BodyLine, HexWord, LeafLine, Lines, Numbered, Numbers, PathLine, TextFault, body_line,
+    code_line, ilv_line, is_bare, leaf_line, path_line,
+};
 use fc_path::{Body, Key, OperKind, PathData};
 use fc_wire::Ilv;
 use std::alloc::Global;
 
-// The number and the value of a key, with which its line ends.
-#[tactic(auto, unfolding(crate::specs::TextReading::key_in))]
-fn read_key(alloc: Global, mut words: Words) -> Result<Key, TextFault>
-    ensures { Gives result (key_in words.entry) }
+// The bytes of a word.
+fn octets_of(alloc: Global, word: &HexWord) -> Result<Octets, Memory>
+    ensures { IfOk result (λ octets. octets ≡ word.now) }
 {
-    let ident = words.decimal()?;
-    let value = words.octets(alloc)?;
-    words.end()?;
-    Ok(Key { ident, value })
+    let mut bytes = Vec::with_capacity(alloc, word.len())?;
+    word.append_to(&mut bytes)?;
+    Ok(Octets::from_vec(bytes))
 }
 
-// The IDs and the key of a PATH-DATA, with which its line ends.
-#[tactic(auto, unfolding(crate::specs::TextReading::steps_in))]
-fn read_steps(alloc: Global, mut words: Words) -> Result<(List<u32>, Option<Key>), TextFault>
-    ensures { Gives result (steps_in words.entry) }
+// The IDs of a PATH-DATA.
+fn ids_of(alloc: Global, mut numbers: Numbers) -> Result<List<u32>, Memory>
+    ensures { IfOk result (λ ids. ids ≡ numbers.entry) }
 {
     let mut ids = List::new(alloc);
-    'words: while let Some(word) = words.next() {
-        if is(word.text, b"key") {
-            let key = read_key(alloc, words)?;
-            return Ok((ids, Some(key)));
-        }
-        match decimal_of(word.text) {
-            Some(id) => ids.push(id)?,
-            None => return Err(words.misfit(&word)),
+    'ids: while let Some(id) = numbers.next() {
+        ids.push(id)?;
+    }
+    Ok(ids)
+}
+
+// The key of a PATH-DATA, if it has one.
+fn key_in(alloc: Global, said: Option<Numbered>) -> Result<Option<Key>, Memory>
+    ensures { IfOk result (λ key. key ≡ option_map key_of said.entry) }
+{
+    match said {
+        None => Ok(None),
+        Some(Numbered { number, bytes }) => {
+            let value = octets_of(alloc, &bytes)?;
+            Ok(Some(Key {
+                ident: number,
+                value,
+            }))
         }
     }
-    Ok((ids, None))
 }
 
 // The line of an ILV at a level.
-#[tactic(auto, unfolding(crate::specs::TextReading::ilv_at))]
 fn read_ilv(alloc: Global, level: usize, lines: &mut Lines) -> Result<Ilv, TextFault>
     requires { level ≤ 20 }
     ensures exact { Reads result (ilv_at level lines.old) lines.new }
     ensures less { OnOk result (length lines.new.lines < length lines.old.lines) }
 {
-    let mut words = lines.take(level)?;
-    words.exactly(b"ilv")?;
-    let ident = words.decimal()?;
-    let value = words.octets(alloc)?;
-    words.end()?;
-    Ok(Ilv { ident, value })
+    let said = ilv_line(level, lines)?;
+    let value = octets_of(alloc, &said.bytes)?;
+    Ok(Ilv {
+        ident: said.number,
+        value,
+    })
 }
 
 // The lines of ILVs at a level.
@@ -73,57 +78,38 @@ fn read_ilvs(alloc: Global, level: usize, lines: &mut Lines) -> Result<List<Ilv>
     Ok(ilvs)
 }
 
-// A code, with which its line ends.
-#[tactic(auto, unfolding(crate::specs::TextReading::code_in))]
-fn read_code(mut words: Words) -> Result<Code, TextFault>
-    ensures { Gives result (code_in words.entry) }
-{
-    let code = words.two_digits()?;
-    words.end()?;
-    Ok(Code(code))
-}
-
 /// The line of a code at a level.
-#[tactic(auto, unfolding(crate::specs::TextReading::outcome_at))]
 pub fn read_outcome(level: usize, lines: &mut Lines) -> Result<Code, TextFault>
     requires { level ≤ 20 }
     ensures exact { Reads result (outcome_at level lines.old) lines.new }
     ensures less { OnOk result (length lines.new.lines < length lines.old.lines) }
 {
-    let mut words = lines.take(level)?;
-    words.exactly(b"code")?;
-    read_code(words)
+    let code = code_line(level, lines)?;
+    Ok(Code(code))
 }
 
-// The body at a level that begins with this word and holds no PATH-DATA.
-#[tactic(auto, unfolding(crate::specs::TextReading::leaf_in))]
+// The body at a level whose first line says this, and that holds no PATH-DATA.
 fn read_leaf(
     alloc: Global,
-    kind: OperKind,
     level: usize,
-    word: &Word,
-    mut words: Words,
+    said: LeafLine,
     lines: &mut Lines,
 ) -> Result<Body, TextFault>
     requires { level < 20 }
-    ensures exact { Reads result (leaf_in kind level word.now words.entry lines.old) lines.new }
+    ensures exact { Reads result (leaf_of level (leaf_said said.entry) lines.old) lines.new }
     ensures less { OnOk result (length lines.new.lines ≤ length lines.old.lines) }
 {
-    if kind.takes_full() && is(word.text, b"full") {
-        let value = words.octets(alloc)?;
-        words.end()?;
-        return Ok(Body::Full(value));
+    match said {
+        LeafLine::Full(word) => {
+            let value = octets_of(alloc, &word)?;
+            Ok(Body::Full(value))
+        }
+        LeafLine::Sparse => {
+            let ilvs = read_ilvs(alloc, level + 1, lines)?;
+            Ok(Body::Sparse(ilvs))
+        }
+        LeafLine::Outcome(code) => Ok(Body::Outcome(Code(code))),
     }
-    if kind.takes_sparse() && is(word.text, b"sparse") {
-        words.end()?;
-        let ilvs = read_ilvs(alloc, level + 1, lines)?;
-        return Ok(Body::Sparse(ilvs));
-    }
-    if kind.takes_outcome() && is(word.text, b"code") {
-        let code = read_code(words)?;
-        return Ok(Body::Outcome(code));
-    }
-    Err(words.misfit(word))
 }
 
 // A body at a level, inside of which no more PATH-DATA may stand.
@@ -141,34 +127,33 @@ fn read_last_body(
     if kind.takes_nothing() {
         return Ok(Body::Nothing);
     }
-    let mut words = lines.take(level)?;
-    let word = words.word()?;
-    read_leaf(alloc, kind, level, &word, words, lines)
+    let said = leaf_line(kind, level, lines)?;
+    read_leaf(alloc, level, said, lines)
 }
 
-// The PATH-DATA at a level behind the word `path`, inside of which so many levels of others may stand.
+// The PATH-DATA at a level whose line says this, inside of which so many levels of others may stand.
 #[cycle(read)]
-#[tactic(auto, unfolding(crate::specs::TextReading::path_by))]
+#[tactic(auto, unfolding(crate::specs::HeadedReading::path_of))]
 fn read_path(
     alloc: Global,
     kind: OperKind,
     depth: usize,
     level: usize,
-    words: Words,
+    said: PathLine,
     lines: &mut Lines,
 ) -> Result<PathData, TextFault>
     requires { level + depth < 19 }
-    ensures exact { Reads result (path_by (body_at kind depth) level words.entry lines.old) lines.new }
+    ensures exact { Reads result (path_of (body_at kind depth) level (steps_said said.entry) lines.old) lines.new }
     ensures less { OnOk result (length lines.new.lines ≤ length lines.old.lines) }
 {
-    let (ids, key) = read_steps(alloc, words)?;
+    let ids = ids_of(alloc, said.ids)?;
+    let key = key_in(alloc, said.key)?;
     let body = read_body(alloc, kind, depth, level + 1, lines)?;
     Ok(PathData { ids, key, body })
 }
 
 // The line of a PATH-DATA at a level, and what stands below it.
 #[cycle(read)]
-#[tactic(auto, unfolding(crate::specs::TextReading::path_line))]
 fn read_path_line(
     alloc: Global,
     kind: OperKind,
@@ -177,20 +162,34 @@ fn read_path_line(
     lines: &mut Lines,
 ) -> Result<PathData, TextFault>
     requires { level + depth < 19 }
-    ensures exact { Reads result (path_line (body_at kind depth) level lines.old) lines.new }
+    ensures exact { Reads result (path_at (body_at kind depth) level lines.old) lines.new }
     ensures less { OnOk result (length lines.new.lines < length lines.old.lines) }
 {
-    let mut words = lines.take(level)?;
-    words.exactly(b"path")?;
-    read_path(alloc, kind, depth, level, words, lines)
+    let said = path_line(level, lines)?;
+    read_path(alloc, kind, depth, level, said, lines)
 }
 
-// Whether a body ends before its first line, which is not at this level.
-fn is_bare(kind: OperKind, level: usize, lines: &Lines) -> bool
-    requires { level < 20 }
-    ensures { result ≡ (takes_nothing kind && not (stands_at level lines.now.lines)) }
+// The body at a level whose first line says this, and so many levels of PATH-DATA in each that it holds.
+#[cycle(read)]
+fn read_headed_body(
+    alloc: Global,
+    kind: OperKind,
+    depth: usize,
+    level: usize,
+    said: BodyLine,
+    lines: &mut Lines,
+) -> Result<Body, TextFault>
+    requires { level + depth < 19 }
+    ensures exact { Reads result (body_of (body_at kind depth) level (body_said said.entry) lines.old) lines.new }
+    ensures less { OnOk result (length lines.new.lines ≤ length lines.old.lines) }
 {
-    kind.takes_nothing() && !lines.stands_at(level)
+    match said {
+        BodyLine::Leaf(said) => read_leaf(alloc, level, said, lines),
+        BodyLine::Path(said) => {
+            let paths = read_paths(alloc, kind, depth, level, said, lines)?;
+            Ok(Body::Nested(paths))
+        }
+    }
 }
 
 // The body at a level of a PATH-DATA, inside of which PATH-DATA may stand, and so many levels of others in each.
@@ -210,13 +209,8 @@ fn read_open_body(
     if is_bare(kind, level, lines) {
         return Ok(Body::Nothing);
     }
-    let mut words = lines.take(level)?;
-    let word = words.word()?;
-    if is(word.text, b"path") {
-        let paths = read_paths(alloc, kind, depth, level, words, lines)?;
-        return Ok(Body::Nested(paths));
-    }
-    read_leaf(alloc, kind, level, &word, words, lines)
+    let said = body_line(kind, level, lines)?;
+    read_headed_body(alloc, kind, depth, level, said, lines)
 }
 
 // The body at a level of a PATH-DATA, inside of which so many levels of others may stand.
@@ -238,23 +232,23 @@ fn read_body(
     read_open_body(alloc, kind, depth - 1, level, lines)
 }
 
-/// The PATH-DATA at a level, the first one behind the word `path`, inside of which so many levels of others may stand.
+/// The PATH-DATA at a level, the line of the first of which says this, inside of which so many levels of others may stand.
 #[cycle(read)]
-#[tactic(auto, unfolding(crate::specs::TextReading::paths_by))]
+#[tactic(auto, unfolding(crate::specs::HeadedReading::paths_of))]
 pub fn read_paths(
     alloc: Global,
     kind: OperKind,
     depth: usize,
     level: usize,
-    words: Words,
+    said: PathLine,
     lines: &mut Lines,
 ) -> Result<List<PathData>, TextFault>
     requires { level + depth < 19 }
-    ensures exact { Reads result (paths_by (body_at kind depth) level words.entry lines.old) lines.new }
+    ensures exact { Reads result (paths_of (body_at kind depth) level (steps_said said.entry) lines.old) lines.new }
     ensures less { OnOk result (length lines.new.lines ≤ length lines.old.lines) }
 {
     let mut paths = List::new(alloc);
-    let path = read_path(alloc, kind, depth, level, words, lines)?;
+    let path = read_path(alloc, kind, depth, level, said, lines)?;
     paths.push(path)?;
     'lines: while lines.stands_at(level) {
         let path = read_path_line(alloc, kind, depth, level, lines)?;

@@ -1,18 +1,18 @@
-// Reading operations and selects from lines.
+// Building operations and selects from what lines say.
 ghost use Rattle.std.specs.Prelude.{◌≡◌, ◌≤◌, ◌<◌, length, OnOk};
-ghost use Rattle.fc_text.specs.TextPlaces.{Reads};
+ghost use Rattle.fc_lines.specs.TextPlaces.{Reads};
 ghost use Rattle.fc_text.specs.TextReading.{many_at, oper_at as oper_in, operation_at, operation_paths_at, select_at as select_in, some_at};
 
-use crate::TextFault;
-use crate::lines::Lines;
 use crate::read_path::{read_outcome, read_paths};
-use crate::show_path::DEPTH;
 use fc_base::{List, Shared};
+use fc_lines::{Lines, TextFault, operation_line, path_line, select_line};
 use fc_path::{Oper, OperKind, Operation, PathData, Select};
 use std::alloc::Global;
 
+/// So many PATH-DATA may stand in one another.
+pub const DEPTH: usize = 16;
+
 // The PATH-DATA of an operation, of which there is at least one.
-#[tactic(auto, unfolding(crate::specs::TextReading::operation_paths_at))]
 fn read_operation_paths(
     alloc: Global,
     kind: OperKind,
@@ -23,9 +23,8 @@ fn read_operation_paths(
     ensures exact { Reads result (operation_paths_at kind level lines.old) lines.new }
     ensures less { OnOk result (length lines.new.lines < length lines.old.lines) }
 {
-    let mut words = lines.take(level)?;
-    words.exactly(b"path")?;
-    read_paths(alloc, kind, DEPTH - 1, level, words, lines)
+    let said = path_line(level, lines)?;
+    read_paths(alloc, kind, DEPTH - 1, level, said, lines)
 }
 
 // What stands below the line of an operation, from a level on.
@@ -54,15 +53,12 @@ fn read_operation(
 }
 
 // An operation at a level of a message of a type.
-#[tactic(auto, unfolding(crate::specs::TextReading::oper_at))]
 fn read_oper(alloc: Global, message: u8, level: usize, lines: &mut Lines) -> Result<Oper, TextFault>
     requires { level ≤ 2 }
     ensures exact { Reads result (oper_in message level lines.old) lines.new }
     ensures less { OnOk result (length lines.new.lines < length lines.old.lines) }
 {
-    let mut words = lines.take(level)?;
-    let operation = words.operation(message)?;
-    words.end()?;
+    let operation = operation_line(message, level, lines)?;
     read_operation(alloc, operation, level + 1, lines)
 }
 
@@ -89,7 +85,6 @@ fn read_opers(
 }
 
 // An LFBselect at a level of a message of a type.
-#[tactic(auto, unfolding(crate::specs::TextReading::select_at))]
 fn read_select(
     alloc: Global,
     message: u8,
@@ -100,11 +95,7 @@ fn read_select(
     ensures exact { Reads result (select_in message level lines.old) lines.new }
     ensures less { OnOk result (length lines.new.lines < length lines.old.lines) }
 {
-    let mut words = lines.take(level)?;
-    words.exactly(b"lfb")?;
-    let class = words.eight_digits()?;
-    let instance = words.eight_digits()?;
-    words.end()?;
+    let (class, instance) = select_line(level, lines)?;
     let opers = read_opers(alloc, message, level + 1, lines)?;
     Ok(Select {
         class,

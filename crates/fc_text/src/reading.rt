@@ -4,14 +4,13 @@ ghost use Rattle.std.specs.List.{AllByRecursion};
 ghost use Rattle.fc_msg.specs.Messages.{IsProper, message_fits};
 ghost use Rattle.fc_msg.specs.declared.message.Message.{Message as Spelled};
 ghost use Rattle.fc_text.specs.FirstMisfit.{FirstMisfit, FitsMessages, IsWithin, TooLongAt};
-ghost use Rattle.fc_text.specs.TextPlaces.{Gives, Reads, RefusedAt};
+ghost use Rattle.fc_lines.specs.TextPlaces.{Gives, Reads, RefusedAt};
 ghost use Rattle.fc_text.specs.TextGrammar.{SpellsText};
-ghost use Rattle.fc_text.specs.TextReading.{content_at, head_at, message_at, number_at, shut as is_shut, many_at, text_in, whole_at};
+ghost use Rattle.fc_text.specs.TextReading.{content_at, message_at, many_at, text_in, whole_at};
 
-use crate::TextFault;
-use crate::lines::Lines;
 use crate::read_select::{read_selects, read_some_selects};
 use fc_base::{List, Memory, WriteFault};
+use fc_lines::{Lines, TextFault, head_line, number_line};
 use fc_msg::{HEARTBEAT, Message, MsgBody, SETUP, SETUP_RESPONSE, TEARDOWN, encode};
 use fc_wire::Flags;
 use std::alloc::Global;
@@ -73,9 +72,9 @@ pub fn read_whole(alloc: Global, lines: &mut Lines) -> Result<Message, TextFault
     ensures exact { Reads result (whole_at lines.old) lines.new }
     ensures less { OnOk result (length lines.new.lines < length lines.old.lines) }
 {
-    let head = read_head(lines)?;
+    let head = head_line(lines)?;
     let body = read_content(alloc, head.kind, lines)?;
-    shut(lines)?;
+    lines.shut()?;
     Ok(Message {
         source: head.source,
         dest: head.dest,
@@ -83,62 +82,6 @@ pub fn read_whole(alloc: Global, lines: &mut Lines) -> Result<Message, TextFault
         flags: Flags::from_word(head.flags),
         body,
     })
-}
-
-// That another message begins here, or the text ends.
-#[tactic(auto, unfolding(crate::specs::TextReading::shut))]
-fn shut(lines: &Lines) -> Result<(), TextFault>
-    ensures { Gives result (is_shut lines.now) }
-{
-    if lines.stands_at(0) {
-        return Ok(());
-    }
-    lines.closed()
-}
-
-// What the line of a message says.
-#[derive(Drop)]
-struct Head {
-    kind: u8,
-    source: u32,
-    dest: u32,
-    corr: u64,
-    flags: u32,
-}
-
-// The line of a message.
-#[tactic(auto, unfolding(crate::specs::TextReading::head_at))]
-fn read_head(lines: &mut Lines) -> Result<Head, TextFault>
-    ensures exact { Reads result (head_at lines.old) lines.new }
-    ensures less { OnOk result (length lines.new.lines < length lines.old.lines) }
-{
-    let mut words = lines.take(0)?;
-    let kind = words.message()?;
-    let source = words.labelled_eight(b"from=")?;
-    let dest = words.labelled_eight(b"to=")?;
-    let corr = words.labelled_sixteen(b"corr=")?;
-    let flags = words.labelled_eight(b"flags=")?;
-    words.end()?;
-    Ok(Head {
-        kind,
-        source,
-        dest,
-        corr,
-        flags,
-    })
-}
-
-// The line of a number.
-#[tactic(auto, unfolding(crate::specs::TextReading::number_at))]
-fn read_number(name: &[u8], lines: &mut Lines) -> Result<u32, TextFault>
-    ensures exact { Reads result (number_at name.now lines.old) lines.new }
-    ensures less { OnOk result (length lines.new.lines ≤ length lines.old.lines) }
-{
-    let mut words = lines.take(1)?;
-    words.exactly(name)?;
-    let number = words.decimal()?;
-    words.end()?;
-    Ok(number)
 }
 
 // The body of a message of a type.
@@ -150,11 +93,11 @@ fn read_content(alloc: Global, kind: u8, lines: &mut Lines) -> Result<MsgBody, T
     match kind {
         HEARTBEAT => Ok(MsgBody::Heartbeat),
         SETUP_RESPONSE => {
-            let result = read_number(b"result", lines)?;
+            let result = number_line(b"result", lines)?;
             Ok(MsgBody::SetupResponse(result))
         }
         TEARDOWN => {
-            let reason = read_number(b"reason", lines)?;
+            let reason = number_line(b"reason", lines)?;
             Ok(MsgBody::Teardown(reason))
         }
         SETUP => {

@@ -4,11 +4,11 @@ use Rattle.std.specs.Prelude.{⊤}
 use Rattle.std.specs.Io.KnownBytes.{Keeps}
 use Rattle.fc_base.specs.Content.{AppendsFront}
 use Rattle.fc_msg.specs.declared.message.Message.{Message}
-use Rattle.fc_text.specs.Making.{Makes as AreMade}
+use Rattle.fc_making.specs.Making.{Makes as AreMade}
 use Rattle.fc_text.specs.TextGrammar.{SpellsText}
-use Rattle.fc_text.specs.TextPlaces.{TextPlace}
+use Rattle.fc_lines.specs.TextPlaces.{TextPlace}
 use Rattle.fc_text.specs.TextReading.{text_in}
-use Rattle.fc_text.specs.declared.fault.TextFault.TheVariants.{At}
+use Rattle.fc_lines.specs.declared.fault.TextFault.TheVariants.{At}
 use Rattle.fc_endings.specs.declared.input.Look.TheVariants as look
 use Rattle.fc_tool.specs.declared.make.Made.{Made}
 use Rattle.fc_tool.specs.declared.make.Made.TheVariants.{Done, ReadFault, Refused, TooLong}

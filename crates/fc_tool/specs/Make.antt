@@ -6,7 +6,7 @@ use Rattle.fc_msg.specs.Messages.{canonical}
 use Rattle.fc_msg.specs.declared.message.Message.{Message}
 use Rattle.fc_text.specs.FirstMisfit.{FirstMisfit, FitsMessages, IsWithin, TooLongAt}
 use Rattle.fc_text.specs.TextGrammar.{SpellsText}
-use Rattle.fc_text.specs.TextPlaces.{TextPlace}
+use Rattle.fc_lines.specs.TextPlaces.{TextPlace}
 use Rattle.fc_text.specs.TextReading.{text_in}
 use Rattle.fc_endings.specs.declared.input.Look.{Look}
 use Rattle.fc_endings.specs.declared.input.Look.TheVariants as look

@@ -9,8 +9,7 @@ ghost use Rattle.fc_tool.specs.Show.{Reaches, text_of};
 
 use fc_base::Memory;
 use fc_msg::{MsgFault, Refusal, whole_frame};
-use fc_text::show_bytes;
-use std::alloc::Global;
+use fc_showing::show_bytes;
 
 /// How far the frames of some bytes were shown, and why no further: a frame is refused, or not whole.
 #[derive(Clone, Copy, Debug, PartialEq, Eq)]
@@ -20,7 +19,7 @@ pub struct Cut {
 }
 
 /// Appends the text of each whole frame, up to the first that is refused. After an `Err` some of the texts were appended.
-pub fn push_frames(alloc: Global, bytes: &[u8], text: &mut Vec<u8>) -> Result<Cut, Memory>
+pub fn push_frames(bytes: &[u8], text: &mut Vec<u8>) -> Result<Cut, Memory>
     ensures taken { IfOk result (λ cut. cut.taken ≤ length bytes.now) }
     ensures shown { IfOk result (λ cut. (ms : List Spelled) × Reaches bytes.now ms (drop cut.taken bytes.now) × (text.new.items ≡ text.old.items ++ text_of ms)) }
     ensures partial { IfOk result (λ cut. cut.refused ≡ None → IsPartial (drop cut.taken bytes.now)) }
@@ -29,10 +28,9 @@ pub fn push_frames(alloc: Global, bytes: &[u8], text: &mut Vec<u8>) -> Result<Cu
     ensures refused { IfOk result (λ cut. IfSome cut.refused (λ fault. fault_of (take (frame_len (drop cut.taken bytes.now)) (drop cut.taken bytes.now)) ≡ Some fault)) }
     ensures within { IfOk result (λ cut. IfSome cut.refused (λ fault. fault.place ≤ length (drop cut.taken bytes.now))) }
 {
-    let mut lines = Vec::new(alloc);
     let mut at = 0usize;
     'frames: while let Some(size) = whole_frame(&bytes[at..]) {
-        let refused = push_frame(alloc, &bytes[at..at + size], &mut lines, text)?;
+        let refused = push_frame(&bytes[at..at + size], text)?;
         if refused.is_some() {
             return Ok(Cut { taken: at, refused });
         }
@@ -44,24 +42,14 @@ pub fn push_frames(alloc: Global, bytes: &[u8], text: &mut Vec<u8>) -> Result<Cu
     })
 }
 
-// Appends the text of the message that a frame spells, or tells why it spells none. Its lines are gathered in a buffer of
-// their own, which is kept and empty, so that they are made in place.
-fn push_frame(
-    alloc: Global,
-    frame: &[u8],
-    lines: &mut Vec<u8>,
-    text: &mut Vec<u8>,
-) -> Result<Option<Refusal>, Memory>
+// Appends the text of the message that a frame spells, or tells why it spells none.
+fn push_frame(frame: &[u8], text: &mut Vec<u8>) -> Result<Option<Refusal>, Memory>
     ensures shown { IfOk result (λ refused. refused ≡ None → (m : Spelled) × Spells m frame.now × (text.new.items ≡ text.old.items ++ message_text m)) }
     ensures refused { IfOk result (λ refused. IfSome refused (λ fault. (fault_of frame.now ≡ Some fault) × (text.new.items ≡ text.old.items))) }
     ensures within { IfOk result (λ refused. IfSome refused (λ fault. fault.place ≤ length frame.now)) }
 {
-    lines.clear();
-    match show_bytes(alloc, frame, lines) {
-        Ok(()) => {
-            text.extend_from_slice(lines.as_slice())?;
-            Ok(None)
-        }
+    match show_bytes(frame, text) {
+        Ok(()) => Ok(None),
         Err(MsgFault::At(refusal)) => Ok(Some(refusal)),
         Err(MsgFault::Memory) => Err(Memory),
     }

@@ -2,7 +2,7 @@
 ghost use Rattle.std.specs.Prelude.{◌≡◌, OnOk, OnErr, IfOk, string_bytes};
 ghost use Rattle.std.specs.Io.KnownBytes.{Appends};
 ghost use Rattle.fc_base.specs.Content.{AppendsFront};
-ghost use Rattle.fc_text.specs.TextPlaces.{place};
+ghost use Rattle.fc_lines.specs.TextPlaces.{place};
 ghost use Rattle.fc_endings.specs.Endings.{EndCount};
 ghost use Rattle.fc_endings.specs.Limits.{most_bytes};
 ghost use Rattle.fc_tool.specs.Make.{MakeEnds, TextEnds, is_unread, text_refusal};
@@ -10,7 +10,8 @@ ghost use Rattle.fc_endings.specs.Stops.{FlushedAt, SinkCount};
 
 use fc_base::{Memory, Sink, Source};
 use fc_endings::{Look, Stop, finished, look_over, put};
-use fc_text::{TextFault, make_bytes};
+use fc_lines::TextFault;
+use fc_making::make_bytes;
 use std::alloc::Global;
 
 /// How `make` ended, where all was written.

@@ -89,7 +89,7 @@ fn show_piece<K: Sink>(
     ensures count { SinkCount result (K.faults out.old) (K.faults out.new) }
 {
     text.clear();
-    let cut = push_frames(alloc, splitter.rest(), text)?;
+    let cut = push_frames(splitter.rest(), text)?;
     match cut.refused {
         None => {
             put(out, text.as_slice())?;

@@ -1,22 +1,22 @@
 -- Of records that are settled at the front: what is looked for behind them is all that is held.
-use Rattle.std.proofs.Common.{◌≡◌, ℕ, zero, suc, ◌+◌, ◌<◌, ◌≤◌, Bool, true, false, ◌&&◌, ◌||◌, cond, List, [], ◌∷◌, ◌++◌, length, drop, slice_get, Option, Some, None, refl, sym, ap, ◌∙◌, arith}
+use Rattle.std.proofs.Common.{◌≡◌, ℕ, zero, suc, ◌<◌, ◌≤◌, Bool, false, ◌||◌, cond, List, [], ◌∷◌, ◌++◌, length, drop, slice_get, refl, sym, ap, ◌∙◌, arith}
 use Rattle.std.specs.List.{list_any}
-use Rattle.fc_protocol.specs.Records.{held, is_held, clashes}
-use Rattle.fc_protocol.specs.Scopes.{meets}
+use Rattle.fc_protocol.specs.Records.{held, is_held}
 use Rattle.fc_protocol.specs.declared.states.TxnState.{TxnState}
 use Rattle.fc_protocol.specs.declared.answers.TxnEntry.{TxnEntry}
-use Rattle.fc_tx.specs.Kept.{AreSettled, passes, restated}
-use Rattle.fc_tx.specs.Records.{is_in_the_way}
+use Rattle.fc_tx.specs.Kept.{passes, restated}
+use Rattle.fc_tx.specs.Records.{AreSettled}
 
 pub held_past : (i : ℕ) (ns : List TxnEntry) → AreSettled i ns → held (drop i ns) ≡ held ns
 held_past zero ns a = refl
 held_past (suc i) [] a = absurd a
 held_past (suc i) (n ∷ ns) a = held_past i ns a.1 ∙ sym (ap (λ b. cond b (n ∷ held ns) (held ns)) a.0)
 
-pub way_past : (sc : List (ℕ × ℕ)) (i : ℕ) (ns : List TxnEntry) → AreSettled i ns → list_any (is_in_the_way sc) ns ≡ list_any (is_in_the_way sc) (drop i ns)
-way_past sc zero ns a = refl
-way_past sc (suc i) [] a = absurd a
-way_past sc (suc i) (n ∷ ns) a = ap (λ b. (b && meets sc n.scope) || list_any (is_in_the_way sc) ns) a.0 ∙ way_past sc i ns a.1
+-- a test that no settled record passes
+pub any_past : (test : TxnEntry → Bool) → ((n : TxnEntry) → is_held n.state ≡ false → test n ≡ false) → (i : ℕ) (ns : List TxnEntry) → AreSettled i ns → list_any test ns ≡ list_any test (drop i ns)
+any_past test fails zero ns a = refl
+any_past test fails (suc i) [] a = absurd a
+any_past test fails (suc i) (n ∷ ns) a = ap (λ b. b || list_any test ns) (fails n a.0) ∙ any_past test fails i ns a.1
 
 pub settled_more : (i : ℕ) (ns : List TxnEntry) → i < length ns → passes (λ n. is_held n.state) (slice_get ns i) ≡ false → AreSettled i ns → AreSettled (suc i) ns
 settled_more zero [] l e a = absurd (omega (arith, l))

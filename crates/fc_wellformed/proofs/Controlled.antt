@@ -10,7 +10,7 @@ use Rattle.fc_msg.specs.Messages.{IsProper, canonical, message_fits}
 use Rattle.fc_wellformed.proofs.Sizes.{setup_response_fits}
 use Rattle.fc_msg.specs.Reading.{message_in}
 use Rattle.fc_msg.specs.declared.message.Message.{Message}
-use Rattle.fc_text.specs.TextPlaces.{TextPlace}
+use Rattle.fc_lines.specs.TextPlaces.{TextPlace}
 use Rattle.fc_text.specs.TextReading.{body_in}
 use Rattle.fc_text.proofs.SoundMessages.{read_body_is_spelled}
 use Rattle.fc_protocol.specs.MasterMachine.{Refusal, finish, forget_refusal, forgets, give_up_refusal, gives_up}

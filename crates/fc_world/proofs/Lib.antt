@@ -4,6 +4,8 @@ pub mod Batches
 pub mod Calling
 pub mod Clearing
 pub mod Counting
+pub mod Going
+pub mod Growing
 pub mod Places
 pub mod Planning
 pub mod Playing

@@ -4,6 +4,7 @@
 
 mod controllers;
 mod faults;
+mod laws;
 mod lives;
 mod naming;
 mod nodes;
@@ -13,9 +14,12 @@ mod sent;
 mod setting;
 mod stage;
 mod stepping;
+mod trail;
 mod trailing;
 mod world;
 
 pub use faults::{Refused, WorldFault};
 pub use fc_steps::Step;
+pub use laws::messages_stay;
+pub use trail::Trail;
 pub use world::World;

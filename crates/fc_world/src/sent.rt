@@ -109,12 +109,18 @@ pub fn count(batches: &[Batch]) -> usize
     }
 }
 
-// How many batches begin at this place or before it; they are in front of the others.
+// How many batches begin at this place or before it; they are in front of the others. What was just sent stands in the last batch, which is
+// looked at first.
 fn begun_at(place: usize, batches: &[Batch]) -> usize
     ensures within { result ≤ length batches.now }
     ensures begun { 0 < result → HoldsAt (λ (b : Batch). b.before ≤ place) batches.now (result - 1) }
     ensures later { result < length batches.now → HoldsAt (λ (b : Batch). place < b.before) batches.now result }
 {
+    if let Some(last) = batches.last() {
+        if last.before <= place {
+            return batches.len();
+        }
+    }
     let mut low = 0;
     let mut high = batches.len();
     while low < high {

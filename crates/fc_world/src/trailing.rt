@@ -1,5 +1,5 @@
 // One number for all messages that were sent.
-ghost use Rattle.std.specs.Prelude.{◌≡◌, IfOk, OnOk};
+ghost use Rattle.std.specs.Prelude.{◌≡◌, IfOk, OnErr, OnOk};
 ghost use Rattle.std.specs.List.{fold};
 ghost use Rattle.fc_msg.specs.Messages.{canonical};
 ghost use Rattle.fc_world.specs.Stages.{all_parcels, parcels_of};
@@ -30,18 +30,30 @@ fn behind(trail: u32, bytes: &[u8]) -> u32
     trail
 }
 
-// A walk over messages: the trail so far, and the room in which each is spelled.
+/// A walk over messages: the trail so far, and the room in which each is spelled.
 #[derive(Drop)]
-struct Walk {
+pub struct Walk {
     encoder: Encoder,
     bytes: Vec<u8>,
-    trail: u32,
+    pub trail: u32,
 }
 
 impl Walk {
-    // Past one more message.
-    fn pass(&mut self, message: &Message) -> Result<(), Memory>
-        ensures { OnOk result (self.new.trail ≡ fold spec.trodden self.old.trail (canonical message.now)) }
+    /// A walk before its first message.
+    pub fn new(alloc: Global) -> Walk
+        ensures { result.trail ≡ 0 }
+    {
+        Walk {
+            encoder: Encoder::new(alloc),
+            bytes: Vec::new(alloc),
+            trail: 0,
+        }
+    }
+
+    /// Past one more message. After an `Err` the trail is as it was.
+    pub fn pass(&mut self, message: &Message) -> Result<(), Memory>
+        ensures ok { OnOk result (self.new.trail ≡ fold spec.trodden self.old.trail (canonical message.now)) }
+        ensures err { OnErr result (self.new.trail ≡ self.old.trail) }
     {
         self.bytes.clear();
         match self.encoder.encode(message, &mut self.bytes) {
@@ -85,11 +97,7 @@ impl Walk {
 pub fn trail_of(alloc: Global, batches: &[Batch]) -> Result<u32, Memory>
     ensures { IfOk result (λ trail. trail ≡ spec.trail_of (all_parcels batches.now)) }
 {
-    let mut walk = Walk {
-        encoder: Encoder::new(alloc),
-        bytes: Vec::new(alloc),
-        trail: 0,
-    };
+    let mut walk = Walk::new(alloc);
     for batch in batches {
         walk.pass_batch(batch)?;
     }

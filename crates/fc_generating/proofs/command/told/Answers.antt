@@ -6,4 +6,4 @@ use Rattle.fc_generating.proofs.command.told.Goals as goal
 
 pub returns : goal.returns
 returns c =
-    subst (λ w. IfOk c.text_of.result (λ text. text.items ≡ summary c.args.count w)) (c.in_ok-world.ensures ∙ ap last_world c.in_ok-script.ensures) c.text_of.ensures
+    subst (λ w. IfOk c.text_of.result (λ text. text.items ≡ summary c.args.count w)) (c.in_ok-run.ensures ∙ ap last_world c.in_ok-script.ensures) c.text_of.ensures

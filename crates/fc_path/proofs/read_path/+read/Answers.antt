@@ -1,30 +1,17 @@
-use Rattle.std.proofs.Common.{◌≢◌, ◌-◌, Some, sym, ap, ◌∙◌, arith, subst}
+use Rattle.std.proofs.Common.{◌-◌, sym, arith, subst}
 use Rattle.std.proofs.lemmas.Result.{err_from_is_err_and}
-use Rattle.fc_wire.specs.Tlvs.{TlvItem}
 use Rattle.fc_path.specs.Reading.{path_at}
+use Rattle.fc_path.specs.Stray.{Gives}
 use Rattle.fc_path.proofs.Heading.{body_stops, built, head_stops}
-use Rattle.fc_path.proofs.Steps.{body_leaf_fails, body_shut_fails, body_shut}
 use Rattle.fc_path.proofs.read_path.+read.Goals as goal
 
-pub read_body-returns-in_err-body-in-Some-Ok : goal.read_body-returns-in_err-body-in-Some-Ok
-read_body-returns-in_err-body-in-Some-Ok t c =
-    let p = err_from_is_err_and c.from_residual-in_err-body-in-Some-Ok.result c.from_residual-in_err-body-in-Some-Ok.ensures.1 in
-    let other = subst (λ (x : TlvItem). x.kind ≢ 272) c.tlv.view_is c.if-tlv-eq-PATH_DATA.false in
-    rw (p.1, p.2) (body_leaf_fails c.args.kind (path_at c.args.kind c.args.depth) c.args.end c.args.tlvs.items c.args.tlvs.fault c.in-Some-Ok.tlv c.next.new.self c.in_err-body-in-Some-Ok.field-0.0
-    (ap Some (sym c.in-Some-Ok.field-0-is) ∙ c.in-Some-Ok.ensures.next) c.next.ensures.rest other c.in_err-body-in-Some-Ok.ensures)
+pub read_body-returns-in_err-lent : goal.read_body-returns-in_err-lent
+read_body-returns-in_err-lent t c =
+    let p = err_from_is_err_and c.from_residual.result c.from_residual.ensures.1 in
+    rw (p.1, p.2) (c.in_err-lent.ensures.exact (path_at c.args.kind c.args.depth))
 
-pub read_body-returns-in_err-no_more_bodies-in-Some-Ok : goal.read_body-returns-in_err-no_more_bodies-in-Some-Ok
-read_body-returns-in_err-no_more_bodies-in-Some-Ok t c =
-    let p = err_from_is_err_and c.from_residual-in_err-no_more_bodies-in-Some-Ok.result c.from_residual-in_err-no_more_bodies-in-Some-Ok.ensures.1 in
-    let other = subst (λ (x : TlvItem). x.kind ≢ 272) c.tlv.view_is c.if-tlv-eq-PATH_DATA.false in
-    rw (p.1, p.2) (body_shut_fails c.args.kind (path_at c.args.kind c.args.depth) c.args.end c.args.tlvs.items c.args.tlvs.fault c.in-Some-Ok.tlv c.next.new.self c.in_ok-body-in-Some-Ok.body c.in_err-no_more_bodies-in-Some-Ok.field-0.0
-    (ap Some (sym c.in-Some-Ok.field-0-is) ∙ c.in-Some-Ok.ensures.next) c.next.ensures.rest other c.in_ok-body-in-Some-Ok.ensures c.in_err-no_more_bodies-in-Some-Ok.ensures)
-
-pub read_body-returns-in_ok-no_more_bodies-in-Some-Ok : goal.read_body-returns-in_ok-no_more_bodies-in-Some-Ok
-read_body-returns-in_ok-no_more_bodies-in-Some-Ok t c =
-    let other = subst (λ (x : TlvItem). x.kind ≢ 272) c.tlv.view_is c.if-tlv-eq-PATH_DATA.false in
-    body_shut c.args.kind (path_at c.args.kind c.args.depth) c.args.end c.args.tlvs.items c.args.tlvs.fault c.in-Some-Ok.tlv c.next.new.self c.in_ok-body-in-Some-Ok.body
-    (ap Some (sym c.in-Some-Ok.field-0-is) ∙ c.in-Some-Ok.ensures.next) c.next.ensures.rest other c.in_ok-body-in-Some-Ok.ensures c.in_ok-no_more_bodies-in-Some-Ok.ensures
+pub read_body-returns : goal.read_body-returns
+read_body-returns t c = subst (Gives c.owned_body.result) (sym (c.in_ok-lent.ensures.exact (path_at c.args.kind c.args.depth))) c.owned_body.ensures
 
 pub read_path-returns-in_err-head : goal.read_path-returns-in_err-head
 read_path-returns-in_err-head t c =

@@ -10,8 +10,11 @@ decreases-read_path l = 4 * l.depth
 abbrev pub decreases-read_nested : goal.decreases-read_nested
 decreases-read_nested l = 4 * l.depth + 1
 
+abbrev pub decreases-owned_body : goal.decreases-owned_body
+decreases-owned_body l = 4 * l.depth + 2
+
 abbrev pub decreases-read_body : goal.decreases-read_body
-decreases-read_body l = 4 * l.depth + 2
+decreases-read_body l = 4 * l.depth + 3
 
 abbrev pub invariant-read_nested-items : goal.invariant-read_nested-items
 invariant-read_nested-items l =

@@ -1,6 +1,6 @@
 use Rattle.std.proofs.Common.{◌≡◌, ℕ, List, ◌⊎◌, inl, inr, Err}
 use Rattle.fc_text.specs.FirstMisfit.{IsWithin}
-use Rattle.fc_text.specs.TextPlaces.{TextPlace}
+use Rattle.fc_lines.specs.TextPlaces.{TextPlace}
 use Rattle.fc_text.specs.TextReading.{text_in, body_in}
 use Rattle.fc_text.proofs.Misfits.{text_within, body_within}
 use Rattle.fc_text.proofs.RefusedPlaces.{text_first, body_first}

@@ -1,5 +1,6 @@
 use Rattle.std.proofs.Common.{sym, ◌∙◌, arith}
-use Rattle.fc_text.specs.TextReading.{ilv_at, many_at}
+use Rattle.fc_lines.specs.LineReading.{ilv_at}
+use Rattle.fc_text.specs.TextReading.{many_at}
 use Rattle.fc_text.proofs.Loops.{begins, goes}
 use Rattle.fc_text.proofs.read_path.read_ilvs.Goals as goal
 

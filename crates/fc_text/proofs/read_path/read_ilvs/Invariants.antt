@@ -1,5 +1,6 @@
 use Rattle.std.proofs.Common.{◌≤◌, length}
-use Rattle.fc_text.specs.TextReading.{ilv_at, many_at}
+use Rattle.fc_lines.specs.LineReading.{ilv_at}
+use Rattle.fc_text.specs.TextReading.{many_at}
 use Rattle.fc_text.proofs.Loops.{Going}
 use Rattle.fc_text.proofs.read_path.read_ilvs.Given as goal
 

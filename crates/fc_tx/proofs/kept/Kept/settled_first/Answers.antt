@@ -1,5 +1,5 @@
-use Rattle.std.proofs.Common.{ℕ, ◌+◌, ◌<◌, sym, subst, refl, add-one, arith}
-use Rattle.fc_tx.specs.Kept.{AreSettled}
+use Rattle.std.proofs.Common.{ℕ, ◌<◌, sym, subst, refl, add-one}
+use Rattle.fc_tx.specs.Records.{AreSettled}
 use Rattle.fc_tx.proofs.Settling.{settled_more}
 use Rattle.fc_tx.proofs.kept.Kept.settled_first.Goals as goal
 

@@ -1,5 +1,5 @@
 use Rattle.std.proofs.Common.{◌≡◌}
-use Rattle.fc_tx.specs.Kept.{AreSettled}
+use Rattle.fc_tx.specs.Records.{AreSettled}
 use Rattle.fc_tx.proofs.kept.Kept.settled_first.Given as goal
 
 abbrev pub invariant-loop-at : goal.invariant-loop-at

@@ -1,0 +1,6 @@
+pub mod Cutting
+pub mod DigitValues
+pub mod LineSteps
+pub mod OpenLines
+pub mod HexWords
+pub mod IdWords

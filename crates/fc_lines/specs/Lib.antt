@@ -1,0 +1,4 @@
+pub mod LineReading
+pub mod LineWords
+pub mod TextPlaces
+pub mod WordValues

@@ -1,0 +1,4 @@
+pub mod MadeBytes
+pub mod MadeTexts
+pub mod WrittenParts
+pub mod WrittenMessages

@@ -1,7 +1,0 @@
-use Rattle.std.proofs.Common.{◌≡◌, ◌++◌, take}
-use Rattle.std.specs.List.{flat_map}
-use Rattle.fc_text.specs.Text.{path_text}
-use Rattle.fc_text.proofs.message.+show.Given as goal
-
-abbrev pub invariant-push_paths-loop-path : goal.invariant-push_paths-loop-path
-invariant-push_paths-loop-path l = l.into.items ≡ l.fn.into.items ++ flat_map (λ path. path_text path l.level) (take l.path-index l.paths)

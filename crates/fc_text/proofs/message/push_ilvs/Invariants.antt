@@ -1,7 +1,0 @@
-use Rattle.std.proofs.Common.{◌≡◌, ◌++◌, take}
-use Rattle.std.specs.List.{flat_map}
-use Rattle.fc_text.specs.Text.{ilv_text}
-use Rattle.fc_text.proofs.message.push_ilvs.Given as goal
-
-abbrev pub invariant-loop-ilv : goal.invariant-loop-ilv
-invariant-loop-ilv l = l.into.items ≡ l.fn.into.items ++ flat_map (ilv_text l.level) (take l.ilv-index l.ilvs)

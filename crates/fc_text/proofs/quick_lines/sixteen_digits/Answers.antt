@@ -1,7 +1,0 @@
-use Rattle.fc_text.proofs.FrontLines.{digits_word}
-use Rattle.fc_text.proofs.quick_lines.sixteen_digits.Goals as goal
-
-pub returns : goal.returns
-returns c =
-    digits_word c.args.label.now 16 c.in_ok-number.number c.args.bytes.now c.in_ok-labelled.labelled.now c.in_ok-behind.field-0.now c.in_ok-word.word.now c.in_ok-word.rest.now c.in_ok-labelled.ensures c.in_ok-behind.ensures
-    c.in_ok-word.ensures.cases.0 c.in_ok-word.ensures.cases.1 c.in_ok-number.ensures
