@@ -48,9 +48,9 @@ fn controllers(alloc: Global) -> Result<List<CeId>, Memory>
     Ok(controllers)
 }
 
-/// The script of a large run of so many transactions. Eight elements have a table of rates each. Control element 1 claims them, and begins one transaction
+/// The script of a large run of so many transactions, of which there are at most 1,000. Eight elements have a table of rates each. Control element 1 claims them, and begins one transaction
 /// after the other, of 16 rows more in each table; all messages are delivered, once and in their order. Every fourth transaction is given up once each
-/// element has opened it.
+/// element has opened it. An `Err` is want of memory.
 pub fn generated(alloc: Global, count: u32) -> Result<Script, Memory>
     requires { count ≤ 1000 }
     ensures { IfOk result (λ script. script ≡ spec.generated count) }

@@ -43,7 +43,8 @@ fn write<K: Sink>(text: &[u8], out: &mut K) -> Result<(), Stop>
     finish(out)
 }
 
-/// Makes a run of so many transactions, writes its summary, and flushes it.
+/// Makes a run of so many transactions, at most 1,000, writes its summary, and flushes it. After an `Err` memory was wanting, or the sink has failed and a
+/// front of the summary was written. The memory of a run is not given back: the program ends behind it.
 pub fn generate<K: Sink>(alloc: Global, count: u32, out: &mut K) -> Result<(), Stop>
     requires { count ≤ 1000 }
     ensures ends { GenEnds count result (K.written out.old) (K.written out.new) }

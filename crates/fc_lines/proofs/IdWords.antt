@@ -1,11 +1,12 @@
 -- The IDs of a PATH-DATA, as words that are read and then lent.
-use Rattle.std.proofs.Common.{◌≡◌, ◌≢◌, ℕ, zero, suc, ◌+◌, ◌-◌, ◌≤◌, ◌∷◌, ◌++◌, List, [], length, drop, false, codes, Option, Some, None, Result, Ok, Err, refl, sym, ap, ◌∙◌, arith, append_assoc, add-one}
+use Rattle.std.proofs.Common.{◌≡◌, ◌≢◌, ℕ, zero, suc, ◌+◌, ◌-◌, ◌≤◌, ◌∷◌, ◌++◌, List, [], length, drop, Bool, true, false, codes, Option, Some, None, Result, Ok, Err, refl, sym, ap, ◌∙◌, arith, append_assoc, add-one}
 use Rattle.std.proofs.lemmas.List.{drop-drop}
+use Rattle.std.proofs.lemmas.Slice.Eq.{bytes_eq-Decides}
 use Rattle.std.specs.Str.{bytes_eq}
 use Rattle.fc_base.specs.Answers.{◌>>=◌}
 use Rattle.fc_path.specs.declared.path.Key.{Key}
 use Rattle.fc_lines.specs.LineReading.{steps_of}
-use Rattle.fc_lines.specs.LineWords.{WordItem, WordsLeft, first_word, fits_as, numbers_of, rest_words, value_of, words_left}
+use Rattle.fc_lines.specs.LineWords.{QuickNumber, WordItem, WordsLeft, first_word, fits_as, numbers_of, rest_words, value_of, words_left}
 use Rattle.fc_lines.specs.TextPlaces.{TextPlace, place}
 use Rattle.fc_lines.specs.WordValues.{decimal_of}
 use Rattle.fc_lines.proofs.Cutting.{skip}
@@ -15,18 +16,7 @@ numbers_length zero words h = refl
 numbers_length (suc n) [] h = absurd (omega (arith, h))
 numbers_length (suc n) (w ∷ ws) h = omega (arith, numbers_length n ws (omega (arith, h)))
 
--- the next number
-pub next_number : (count : ℕ) (words : List WordItem) (w : WordItem) → count ≢ 0 → first_word words ≡ Some w → numbers_of count words ≡ value_of (decimal_of w.text) ∷ numbers_of (count - 1) (rest_words words)
-next_number zero words w some is = absurd (some refl)
-next_number (suc n) [] w some is = cc
-next_number (suc n) (x ∷ xs) w some is =
-    let one : suc n - 1 ≡ n = omega arith in
-    ap (λ o. value_of o ∷ numbers_of n xs) (ap (λ (o : Option WordItem). text_of o) is) ∙ ap (λ k. value_of (decimal_of w.text) ∷ numbers_of k xs) (sym one)
-  where
-    text_of : Option WordItem → Option ℕ
-    text_of None = None
-    text_of (Some y) = decimal_of y.text
-
+-- where no word is left
 pub no_number : (count : ℕ) (words : List WordItem) → None ≡ first_word words → numbers_of count words ≡ []
 no_number zero words is = refl
 no_number (suc n) [] is = refl
@@ -109,3 +99,18 @@ steps start now new count n w g first is other d = by now.words refl first
               ∙ ap (λ l. steps_of start.line start.end l >>= behind_ids front) (sym here)
               ∙ g.so_far;
         }
+
+-- a number is not the word in front of a key
+no_key_by : (t : Bool) (text : List ℕ) (n : ℕ) → (t ≡ true → text ≡ codes "key") → decimal_of text ≡ Some n → t ≡ false
+unfolding decimal_of
+no_key_by false text n same d = refl
+no_key_by true text n same d = never (sym (ap decimal_of (same refl)) ∙ d)
+  where
+    never : None ≡ Some n → true ≡ false
+    never e = cc
+
+no_key : (text : List ℕ) (n : ℕ) → decimal_of text ≡ Some n → bytes_eq text (codes "key") ≡ false
+no_key text n d = no_key_by (bytes_eq text (codes "key")) text n (bytes_eq-Decides text (codes "key")).0 d
+
+pub quick_steps : (start now new : WordsLeft) (count n : ℕ) → Stepping start now count → QuickNumber n now new → Stepping start new (count + 1)
+quick_steps start now new count n g q = steps start now new count n q.word g q.first q.rest (no_key q.word.text n q.value) q.value

@@ -4,3 +4,5 @@ pub mod LineSteps
 pub mod OpenLines
 pub mod HexWords
 pub mod IdWords
+pub mod LabelWords
+pub mod FrontDigits

@@ -1,8 +1,8 @@
 -- Taking lines and words, one step at a time.
-use Rattle.std.proofs.Common.{◌≡◌, ℕ, suc, ◌+◌, ◌*◌, ◌<◌, ◌≤◌, ◌==◌, List, [], ◌∷◌, length, take, drop, Bool, true, false, cond, Some, Ok, Err, refl, sym, ap, ◌∙◌, arith, ne_eqb, length-drop, length-take-le}
+use Rattle.std.proofs.Common.{◌≡◌, ℕ, suc, ◌+◌, ◌*◌, ◌<◌, ◌≤◌, ◌==◌, List, [], ◌∷◌, length, drop, Bool, true, false, cond, Ok, Err, refl, sym, ap, ◌∙◌, arith, ne_eqb}
 use Rattle.std.proofs.lemmas.Bool.{eqb-true}
 use Rattle.fc_lines.specs.TextPlaces.{place}
-use Rattle.fc_lines.specs.LineWords.{in_front, lines_of, words_of, words_from, words_left, placed, first_word, rest_words, spaces_before, stands_at, line_at, none_left, LinesLeft, lines_left}
+use Rattle.fc_lines.specs.LineWords.{in_front, lines_of, words_from, spaces_before, stands_at, line_at, none_left, LinesLeft, lines_left}
 use Rattle.fc_lines.proofs.Cutting.{skip, stay}
 
 none_in_front : (b : ℕ) (pieces : List (List ℕ)) → none_left (in_front b pieces) ≡ false
@@ -72,11 +72,6 @@ pub spaces_fit : (line : List ℕ) → spaces_before line ≤ length line
 spaces_fit [] = omega arith
 spaces_fit (b ∷ bs) = spaces_fit_by (b == 32) bs (spaces_fit bs)
 
-pub indent_fits : (level : ℕ) (line : List ℕ) (lines all : List (List ℕ)) → all ≡ line ∷ lines → stands_at level all ≡ true → 2 * level ≤ length line
-indent_fits level line lines all e h =
-    let same : spaces_before line ≡ 2 * level = eqb-true (spaces_before line) (2 * level) (sym (ap (stands_at level) e) ∙ h) in
-    omega (arith, spaces_fit line)
-
 not_there_by : (level taken : ℕ) (lines : List (List ℕ)) → stands_at level lines ≡ false → line_at level (lines_left taken lines) ≡ Err (place (taken + 1) 1)
 unfolding line_at
 not_there_by level taken [] h = refl
@@ -92,29 +87,3 @@ unfolding line_at
 there level taken line lines all e h =
     ap (λ l. line_at level (lines_left taken l)) e
     ∙ stay (spaces_before line == 2 * level) _ _ (sym (ap (stands_at level) e) ∙ h)
-
--- the next word
-pub next_word : (line column n : ℕ) (more : Bool) (rest : List ℕ) → more ≡ true → words_of rest ≡ take n rest ∷ words_of (drop (n + 1) rest)
-    → first_word (words_from line column more rest).words ≡ Some (record { column = column; text = take n rest })
-next_word line column n false rest m e = cc
-next_word line column n true rest m e = ap (λ ws. first_word (placed column ws)) e
-
-pub next_rest : (line column n : ℕ) (more : Bool) (rest : List ℕ) → more ≡ true → n < length rest → words_of rest ≡ take n rest ∷ words_of (drop (n + 1) rest)
-    → words_from line (column + n + 1) true (drop (n + 1) rest) ≡ words_left line (column + length rest) (rest_words (words_from line column more rest).words)
-next_rest line column n false rest m within e = cc
-next_rest line column n true rest m within e =
-    let size : length (take n rest) ≡ n = length-take-le n rest (omega arith) in
-    let end : column + n + 1 + length (drop (n + 1) rest) ≡ column + length rest = omega (arith, length-drop (n + 1) rest) in
-    ap (λ k. words_left line k (placed (column + n + 1) (words_of (drop (n + 1) rest)))) end
-    ∙ ap (λ k. words_left line (column + length rest) (placed (column + k + 1) (words_of (drop (n + 1) rest)))) (sym size)
-    ∙ ap (λ ws. words_left line (column + length rest) (rest_words (placed column ws))) (sym e)
-
-pub last_word : (line column : ℕ) (more : Bool) (rest : List ℕ) → more ≡ true → words_of rest ≡ rest ∷ []
-    → first_word (words_from line column more rest).words ≡ Some (record { column = column; text = rest })
-last_word line column false rest m e = cc
-last_word line column true rest m e = ap (λ ws. first_word (placed column ws)) e
-
-pub last_rest : (line column : ℕ) (more : Bool) (rest : List ℕ) → more ≡ true → words_of rest ≡ rest ∷ []
-    → words_left line (column + length rest) [] ≡ words_left line (column + length rest) (rest_words (words_from line column more rest).words)
-last_rest line column false rest m e = cc
-last_rest line column true rest m e = ap (λ ws. words_left line (column + length rest) (rest_words (placed column ws))) (sym e)

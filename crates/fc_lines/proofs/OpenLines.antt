@@ -1,8 +1,10 @@
 -- Words in a line whose end is not looked for before they are taken.
 use Rattle.std.proofs.Common.{◌≡◌, ◌≢◌, ◌⊎◌, ℕ, zero, suc, ◌+◌, ◌*◌, ◌<◌, ◌≤◌, ◌==◌, ◌++◌, List, [], ◌∷◌, length, take, drop, get_or, Bool, true, false, cond, Option, Some, None, Ok, Err, Result, refl, sym, ap, ◌∙◌, subst, arith, ne_eqb, append-nil, length-append, add-one}
 use Rattle.std.proofs.lemmas.Bool.{eqb-true}
+use Rattle.fc_base.specs.Answers.{◌>>=◌}
 use Rattle.fc_lines.specs.TextPlaces.{TextPlace, place}
-use Rattle.fc_lines.specs.LineWords.{EndsWord, IsPlain, WordsLeft, in_front, line_in, behind_line, lines_of, words_of, words_from, words_left, placed, first_word, rest_words, ended, word_in, word_of, WordItem, spaces_before, stands_at, line_at, lines_left, open_from}
+use Rattle.fc_lines.specs.LineWords.{EndsWord, IsPlain, LinesLeft, WordsLeft, in_front, line_in, behind_line, lines_of, words_of, words_from, words_left, placed, first_word, rest_words, ended, word_in, word_of, WordItem, spaces_before, stands_at, line_at, lines_left, open_from, fits_as, labelled_digits, labelled_in, QuickNumber, decimal_in}
+use Rattle.fc_lines.specs.WordValues.{decimal_of}
 use Rattle.fc_lines.proofs.Cutting.{skip}
 use Rattle.fc_lines.proofs.LineSteps.{there, spaces_fit, stands_some, stands_spaces}
 
@@ -28,7 +30,7 @@ plain_end : (w : List ℕ) (b : ℕ) → IsPlain w → b ≢ 32 → b ≢ 10 →
 plain_end [] b p n m = (n, m, tt)
 plain_end (c ∷ cs) b p n m = (p.0, p.1, plain_end cs b p.2 n m)
 
-take_more : (n : ℕ) (bytes : List ℕ) → n < length bytes → take (suc n) bytes ≡ take n bytes ++ get_or bytes n 0 ∷ []
+pub take_more : (n : ℕ) (bytes : List ℕ) → n < length bytes → take (suc n) bytes ≡ take n bytes ++ get_or bytes n 0 ∷ []
 take_more n [] h = absurd (omega (arith, h))
 take_more zero (b ∷ bs) h = refl
 take_more (suc n) (b ∷ bs) h = ap (λ l. b ∷ l) (take_more n bs (omega (arith, h)))
@@ -97,11 +99,6 @@ unfolding ended
 more_ended line column false bytes m = cc
 more_ended line column true bytes m =
     let (first, others, is) = first_of_words bytes in ap (λ ws. ended (words_left line (column + length bytes) (placed column ws))) is
-
-pub none_ended : (line column : ℕ) (more : Bool) (bytes : List ℕ) → more ≡ false → ended (words_from line column more bytes) ≡ Ok tt
-unfolding ended
-none_ended line column true bytes m = cc
-none_ended line column false bytes m = refl
 
 pub ended_none : (w : WordsLeft) → ended w ≡ Ok tt → w.words ≡ []
 unfolding ended
@@ -210,3 +207,38 @@ placed_few column (w ∷ ws) = ap suc (placed_few (column + length w + 1) ws)
 pub few_words : (line column : ℕ) (more : Bool) (bytes : List ℕ) → length (words_from line column more (line_in bytes)).words ≤ length bytes + 1
 few_words line column false bytes = omega arith
 few_words line column true bytes = omega (arith, placed_few column (words_of (line_in bytes)), words_few (line_in bytes), line_few bytes)
+
+-- a word that is a label and digits is taken
+labelled_read : (label : List ℕ) (count n : ℕ) (w new : WordsLeft) (x : WordItem) → word_in w ≡ Ok (x, new) → labelled_digits label count x.text ≡ Some n → labelled_in label count w ≡ Ok (n, new)
+unfolding labelled_in
+labelled_read label count n w new x is means =
+    ap (λ q. q >>= λ y. fits_as (labelled_digits label count y.0.text) (place w.line y.0.column) >>= λ a. Ok (a, y.1)) is
+    ∙ ap (λ o. fits_as o (place w.line x.column) >>= λ a. Ok (a, new)) means
+
+pub quick_read : (label : List ℕ) (count n line column len : ℕ) (more : Bool) (rest : List ℕ) (now made new : WordsLeft × LinesLeft) (x : WordItem) → open_from line column more rest ≡ now → more ≡ true
+    → first_word (open_from line column true rest).0.words ≡ Some x → x.text ≡ take len rest → made.0 ≡ words_left line (column + length (line_in rest)) (rest_words (open_from line column true rest).0.words)
+    → made.1 ≡ lines_left line (lines_of (behind_line rest)) → new ≡ made → labelled_digits label count (take len rest) ≡ Some n → (labelled_in label count now.0 ≡ Ok (n, new.0)) × (new.1 ≡ now.1)
+quick_read label count n line column len more rest now made new x is all first text words behind same means =
+    let here : open_from line column true rest ≡ now = ap (λ m. open_from line column m rest) (sym all) ∙ is in (
+      ap (λ (w : WordsLeft × LinesLeft). labelled_in label count w.0) (sym here)
+          ∙ labelled_read label count n (open_from line column true rest).0 new.0 x
+          (word_is (open_from line column true rest).0 new.0 x first (ap (λ (w : WordsLeft × LinesLeft). w.0) same ∙ words)) (ap (labelled_digits label count) text ∙ means),
+      ap (λ (w : WordsLeft × LinesLeft). w.1) same ∙ behind ∙ ap (λ (w : WordsLeft × LinesLeft). w.1) here,
+    )
+
+-- a decimal number is taken
+pub quick_number : (n line column len : ℕ) (more : Bool) (rest : List ℕ) (now made new : WordsLeft × LinesLeft) (x : WordItem) → open_from line column more rest ≡ now → more ≡ true
+    → first_word (open_from line column true rest).0.words ≡ Some x → x.text ≡ take len rest → made.0 ≡ words_left line (column + length (line_in rest)) (rest_words (open_from line column true rest).0.words)
+    → made.1 ≡ lines_left line (lines_of (behind_line rest)) → new ≡ made → decimal_of (take len rest) ≡ Some n → QuickNumber n now.0 new.0 × (new.1 ≡ now.1)
+quick_number n line column len more rest now made new x is all first text words behind same means =
+    let here : open_from line column true rest ≡ now = ap (λ m. open_from line column m rest) (sym all) ∙ is in
+    let made_is : new.0 ≡ words_left line (column + length (line_in rest)) (rest_words (open_from line column true rest).0.words) = ap (λ (w : WordsLeft × LinesLeft). w.0) same ∙ words in (
+      subst (λ (w : WordsLeft × LinesLeft). QuickNumber n w.0 new.0) here (record { word = x; first = first; value = ap decimal_of text ∙ means; rest = made_is }),
+      ap (λ (w : WordsLeft × LinesLeft). w.1) same ∙ behind ∙ ap (λ (w : WordsLeft × LinesLeft). w.1) here,
+    )
+
+pub number_read : (n : ℕ) (w new : WordsLeft) → QuickNumber n w new → decimal_in w ≡ Ok (n, new)
+unfolding decimal_in
+number_read n w new q =
+    ap (λ r. r >>= λ y. fits_as (decimal_of y.0.text) (place w.line y.0.column) >>= λ a. Ok (a, y.1)) (word_is w new q.word q.first q.rest)
+    ∙ ap (λ o. fits_as o (place w.line q.word.column) >>= λ a. Ok (a, new)) q.value

@@ -1,10 +1,12 @@
 -- The lines of a text and the words of a line. A line ends at a line feed or at the end of the text, and single spaces part
 -- its words. This profile's own.
-use Rattle.std.specs.Prelude.{◌≡◌, ◌≢◌, ◌⊎◌, ◌<◌, ℕ, zero, suc, get_or, ◌+◌, ◌*◌, ◌==◌, if◌then◌else◌, List, [], ◌∷◌, length, take, drop, Bool, true, false, Option, Some, None, Result, Ok, Err}
+use Rattle.std.specs.Prelude.{◌≡◌, ◌≢◌, ◌⊎◌, ◌<◌, ◌≤◌, ◌^◌, ℕ, zero, suc, get_or, ◌+◌, ◌*◌, ◌==◌, if◌then◌else◌, List, [], ◌∷◌, codes, length, take, drop, Bool, true, false, Option, Some, None, Result, Ok, Err}
 use Rattle.std.specs.Str.{bytes_eq}
 use Rattle.fc_base.specs.Answers.{◌>>=◌}
+use Rattle.fc_lines.specs.declared.label.Label.{Label}
+use Rattle.fc_lines.specs.declared.label.Label.TheVariants as labels
 use Rattle.fc_lines.specs.TextPlaces.{TextPlace, place}
-use Rattle.fc_lines.specs.WordValues.{given, decimal_of, digits_of, octets_of}
+use Rattle.fc_lines.specs.WordValues.{given, decimal_of, decimals, digits_of, octets_of}
 
 -- with one byte more in front of the first piece
 abbrev pub in_front : ℕ → List (List ℕ) → List (List ℕ)
@@ -172,6 +174,13 @@ behind_label label text = if bytes_eq (take (length label) text) label then Some
 abbrev pub labelled_digits : List ℕ → ℕ → List ℕ → Option ℕ
 labelled_digits label count text = given (behind_label label text) (digits_of count)
 
+-- the labels of the numbers in the line of a message
+abbrev pub label_bytes : Label → List ℕ
+label_bytes labels.From = codes "from="
+label_bytes labels.To = codes "to="
+label_bytes labels.Corr = codes "corr="
+label_bytes labels.Flags = codes "flags="
+
 unfoldable pub labelled_in : List ℕ → ℕ → WordsLeft → Result (ℕ × WordsLeft) TextPlace
 labelled_in label count w = meaning (labelled_digits label count) w
 
@@ -184,3 +193,18 @@ abbrev pub numbers_of : ℕ → List WordItem → List ℕ
 numbers_of zero words = []
 numbers_of (suc count) [] = []
 numbers_of (suc count) (word ∷ words) = value_of (decimal_of word.text) ∷ numbers_of count words
+
+-- so many decimal digits in front of bytes, nine at most, which make this number
+pub record Digits (bytes : List ℕ) (number len : ℕ) : Type 0 where
+  pub within : len ≤ length bytes
+  pub few : len ≤ 9
+  pub plain : IsPlain (take len bytes)
+  pub value : decimals 0 (take len bytes) ≡ Some number
+  pub small : number < 10 ^ len
+
+-- the next word is this decimal number, and it is taken
+pub record QuickNumber (number : ℕ) (old new : WordsLeft) : Type 0 where
+  pub word : WordItem
+  pub first : first_word old.words ≡ Some word
+  pub value : decimal_of word.text ≡ Some number
+  pub rest : new ≡ words_left old.line old.end (rest_words old.words)

@@ -1,5 +1,5 @@
 -- What the words for numbers and bytes mean. This profile's own.
-use Rattle.std.specs.Prelude.{ℕ, ◌+◌, ◌-◌, ◌*◌, ◌^◌, ◌==◌, ◌&&◌, not, nat_lt, if◌then◌else◌, List, [], ◌∷◌, length, codes, Option, Some, None}
+use Rattle.std.specs.Prelude.{◌≡◌, Bool, ℕ, ◌+◌, ◌-◌, ◌*◌, ◌^◌, ◌==◌, ◌&&◌, not, nat_lt, if◌then◌else◌, List, [], ◌∷◌, length, codes, Option, Some, None}
 use Rattle.std.specs.Str.{bytes_eq}
 
 -- with the value that is there
@@ -13,6 +13,11 @@ digit_of byte =
     if not (nat_lt byte 48) && not (nat_lt 57 byte) then Some (byte - 48)
     else (if not (nat_lt byte 65) && not (nat_lt 70 byte) then Some (byte - 55)
     else (if not (nat_lt byte 97) && not (nat_lt 102 byte) then Some (byte - 87) else None))
+
+-- the value of a digit, and 255 where there is none
+abbrev pub mark : Option ℕ → ℕ
+mark None = 255
+mark (Some d) = d
 
 -- hexadecimal digits behind those of a number
 abbrev pub hexadecimal : ℕ → List ℕ → Option ℕ
@@ -62,3 +67,7 @@ abbrev pub paired : List ℕ → List ℕ
 paired [] = []
 paired (byte ∷ []) = []
 paired (high ∷ low ∷ bytes) = byte_of (digits_of 2 (high ∷ low ∷ [])) ∷ paired bytes
+
+-- a word is such pairs, or it is not
+abbrev pub Pairs : List ℕ → Bool → Type 0
+Pairs word whole = pairs_of word ≡ (if whole then Some (paired word) else None)

@@ -1,9 +1,10 @@
 // Bytes that a word spells, lent before they are put anywhere.
-ghost use Rattle.std.specs.Prelude.{◌≡◌, ◌≤◌, ◌<◌, ◌/◌, ◌++◌, ◌∷◌, if◌then◌else◌, length, Some, None, OnOk, IfSome, IfNone, option_map};
+ghost use Rattle.std.specs.Prelude.{◌≡◌, ◌≤◌, ◌<◌, ◌/◌, ◌++◌, ◌∷◌, Bool, length, OnOk, IfSome, IfNone};
+ghost use Rattle.fc_wire.specs.Bytes.{u32_bytes};
 ghost use Rattle.fc_path.specs.Heads.{behind_first, first_of};
-ghost use Rattle.fc_lines.specs.WordValues.{byte_of, digits_of, octets_of as octets_word, paired, pairs_of};
+ghost use Rattle.fc_lines.specs.WordValues.{Pairs, byte_of, digits_of, octets_of as octets_word};
 
-use crate::values::two_digits_of;
+use crate::values::{eight_digits, two_digits_of};
 use fc_base::Memory;
 use std::marker::Model;
 
@@ -23,11 +24,26 @@ impl<'a> Model for HexWord<'a> {
     ghost view = { λ h. paired h.digits.now };
 }
 
-// Whether a word is pairs of hexadecimal digits.
-fn are_pairs(word: &[u8]) -> bool
-    ensures { pairs_of word.now ≡ (if result then Some (paired word.now) else None) }
+// What is left behind as many eights of hexadecimal digits as stand in front.
+#[inline(always)]
+fn behind_eights(word: &[u8]) -> &[u8]
+    ensures { (whole : Bool) → Pairs result.now whole → Pairs word.now whole }
 {
     let mut rest = word;
+    'eights: while let Some((digits, more)) = rest.split_first_chunk::<8>() {
+        match eight_digits(digits) {
+            Some(_) => rest = more,
+            None => return rest,
+        }
+    }
+    rest
+}
+
+// Whether a word is pairs of hexadecimal digits.
+fn are_pairs(word: &[u8]) -> bool
+    ensures { Pairs word.now result }
+{
+    let mut rest = behind_eights(word);
     'pairs: while let Some((pair, more)) = rest.split_first_chunk::<2>() {
         match two_digits_of(pair) {
             Some(_) => rest = more,
@@ -39,7 +55,7 @@ fn are_pairs(word: &[u8]) -> bool
 
 // The byte of two digits.
 #[inline(always)]
-fn byte(pair: &[u8]) -> u8
+fn byte(pair: &[u8; 2]) -> u8
     ensures { result ≡ byte_of (digits_of 2 pair.now) }
 {
     match two_digits_of(pair) {
@@ -49,9 +65,9 @@ fn byte(pair: &[u8]) -> u8
 }
 
 impl<'a> HexWord<'a> {
-    /// The bytes of a word: two hexadecimal digits each, or a hyphen for none.
+    // The bytes of a word: two hexadecimal digits each, or a hyphen for none.
     #[tactic(auto, unfolding(crate::specs::WordValues::octets_of))]
-    pub fn of(word: &'a [u8]) -> Option<HexWord<'a>>
+    pub(crate) fn of(word: &'a [u8]) -> Option<HexWord<'a>>
         ensures { result ≡ octets_word word.now }
     {
         if word == b"-".as_slice() {
@@ -89,14 +105,36 @@ impl<'a> HexWord<'a> {
         }
     }
 
+    /// The next four bytes as one number, the first of them the highest; `None` where fewer are left.
+    #[inline(always)]
+    pub fn next_four(&mut self) -> Option<u32>
+        ensures some { IfSome result (λ n. self.old ≡ u32_bytes n ++ self.new) }
+        ensures none { IfNone result (self.new ≡ self.old) }
+    {
+        match self.digits.split_first_chunk::<8>() {
+            Some((digits, rest)) => match eight_digits(digits) {
+                Some(number) => {
+                    self.digits = rest;
+                    Some(number)
+                }
+                None => None,
+            },
+            None => None,
+        }
+    }
+
     /// Appends the bytes.
     pub fn append_to(&self, into: &mut Vec<u8>) -> Result<(), Memory>
         ensures { OnOk result (into.new.items ≡ into.old.items ++ self.now) }
     {
-        let mut rest = self.digits;
-        'pairs: while let Some((pair, more)) = rest.split_first_chunk::<2>() {
-            into.push(byte(pair))?;
-            rest = more;
+        let mut left = HexWord {
+            digits: self.digits,
+        };
+        'fours: while let Some(number) = left.next_four() {
+            into.extend_from_slice(&number.to_be_bytes())?;
+        }
+        'bytes: while let Some(byte) = left.next() {
+            into.push(byte)?;
         }
         Ok(())
     }

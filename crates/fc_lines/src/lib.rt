@@ -2,7 +2,9 @@
 #![tactic(auto)]
 
 mod fault;
+mod front;
 mod hex_word;
+mod label;
 mod lines;
 mod named;
 mod numbers;

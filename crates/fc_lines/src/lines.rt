@@ -55,17 +55,17 @@ impl<'a> Lines<'a> {
         }
     }
 
-    /// Whether no line is left.
+    // Whether no line is left.
     #[inline(always)]
-    pub fn is_empty(&self) -> bool
+    pub(crate) fn is_empty(&self) -> bool
         ensures { result ≡ none_left self.now.lines }
     {
         self.rest.is_empty()
     }
 
-    /// The number of the next line, from 1, which at the end of the text is that of the line behind the last one.
+    // The number of the next line, from 1, which at the end of the text is that of the line behind the last one.
     #[inline(always)]
-    pub fn number(&self) -> usize
+    pub(crate) fn number(&self) -> usize
         ensures { result ≡ self.now.taken + 1 }
     {
         self.taken + 1
@@ -126,10 +126,10 @@ impl<'a> Lines<'a> {
         }
     }
 
-    /// Opens the next line, which has to be indented by this level: gives its words. `close` goes on behind it.
+    // Opens the next line, which has to be indented by this level: gives its words. `close` goes on behind it.
     #[inline(always)]
     #[tactic(auto, unfolding(crate::specs::LineWords::line_at))]
-    pub fn open(&self, level: usize) -> Result<Words<'a>, TextFault>
+    pub(crate) fn open(&self, level: usize) -> Result<Words<'a>, TextFault>
         requires { level ≤ 20 }
         ensures exact { Gives result (line_at level self.now) }
         ensures less { IfOk result (λ words. length words.1.lines < length self.now.lines) }
@@ -141,9 +141,9 @@ impl<'a> Lines<'a> {
         Ok(Words::over(text, self.number(), 2 * level + 1))
     }
 
-    /// Goes on behind the line of these words, of which none may be left.
+    // Goes on behind the line of these words, of which none may be left.
     #[inline(always)]
-    pub fn close(&mut self, words: Words<'a>) -> Result<(), TextFault>
+    pub(crate) fn close(&mut self, words: Words<'a>) -> Result<(), TextFault>
         ensures exact { Gives result (ended words.entry.0) }
         ensures behind { OnOk result (self.new ≡ words.entry.1) }
     {
@@ -152,9 +152,9 @@ impl<'a> Lines<'a> {
         Ok(())
     }
 
-    /// The same, where it is known that none is left.
+    // The same, where it is known that none is left.
     #[inline(always)]
-    pub fn go_on(&mut self, words: Words<'a>)
+    pub(crate) fn go_on(&mut self, words: Words<'a>)
         requires { words.0.words ≡ [] }
         ensures { self.new ≡ words.entry.1 }
     {

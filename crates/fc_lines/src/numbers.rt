@@ -38,9 +38,9 @@ fn number(word: &[u8]) -> u32
 }
 
 impl<'a> Numbers<'a> {
-    /// The numbers of so many of these words.
+    // The numbers of so many of these words.
     #[inline(always)]
-    pub fn over(words: Words<'a>, count: usize) -> Numbers<'a>
+    pub(crate) fn over(words: Words<'a>, count: usize) -> Numbers<'a>
         requires { count ≤ length words.0.words }
         ensures { result ≡ numbers_of count words.entry.0.words }
     {
@@ -63,6 +63,10 @@ impl<'a> Numbers<'a> {
     {
         if self.count == 0 {
             return None;
+        }
+        if let Some(number) = self.words.quick_decimal() {
+            self.count -= 1;
+            return Some(number);
         }
         match self.words.next() {
             Some(word) => {

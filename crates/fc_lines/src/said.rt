@@ -8,6 +8,7 @@ ghost use Rattle.fc_lines.specs.LineReading.{body_head, body_head_at, body_said,
 
 use crate::TextFault;
 use crate::hex_word::HexWord;
+use crate::label::Label;
 use crate::lines::Lines;
 use crate::numbers::Numbers;
 use crate::values::decimal_of;
@@ -19,8 +20,9 @@ use fc_path::{OperKind, Operation};
 pub struct Head {
     /// The type of the message.
     pub kind: u8,
-    /// The IDs of the source and the destination.
+    /// The ID of the source.
     pub source: u32,
+    /// The ID of the destination.
     pub dest: u32,
     /// The correlator.
     pub corr: u64,
@@ -31,7 +33,9 @@ pub struct Head {
 /// A number and bytes, as a key and an ILV have them.
 #[derive(Debug, Drop)]
 pub struct Numbered<'a> {
+    /// The number of the key or of the ILV, of 32 bits.
     pub number: u32,
+    /// The bytes of its value.
     pub bytes: HexWord<'a>,
 }
 
@@ -64,7 +68,9 @@ pub enum BodyLine<'a> {
     Path(PathLine<'a>),
 }
 
-/// The line of a message.
+/// The line of a message, at level 0. Else `At` the first word that does not fit, or column 1 where no line stands at that
+/// level.
+#[inline(always)]
 #[tactic(auto, unfolding(crate::specs::LineReading::head_at))]
 pub fn head_line(lines: &mut Lines) -> Result<Head, TextFault>
     ensures exact { Reads result (head_at lines.old) lines.new }
@@ -72,10 +78,10 @@ pub fn head_line(lines: &mut Lines) -> Result<Head, TextFault>
 {
     let mut words = lines.open(0)?;
     let kind = words.message()?;
-    let source = words.labelled_eight(b"from=")?;
-    let dest = words.labelled_eight(b"to=")?;
-    let corr = words.labelled_sixteen(b"corr=")?;
-    let flags = words.labelled_eight(b"flags=")?;
+    let source = words.labelled_eight(Label::From)?;
+    let dest = words.labelled_eight(Label::To)?;
+    let corr = words.labelled_sixteen(Label::Corr)?;
+    let flags = words.labelled_eight(Label::Flags)?;
     lines.close(words)?;
     Ok(Head {
         kind,
@@ -86,7 +92,8 @@ pub fn head_line(lines: &mut Lines) -> Result<Head, TextFault>
     })
 }
 
-/// The line of a number behind a name, at the first level.
+/// The line of a number behind a name, at level 1. Else `At` the first word that does not fit, or column 1 where no line stands
+/// at that level.
 #[tactic(auto, unfolding(crate::specs::LineReading::number_at))]
 pub fn number_line(name: &[u8], lines: &mut Lines) -> Result<u32, TextFault>
     ensures exact { Reads result (number_at name.now lines.old) lines.new }
@@ -99,7 +106,8 @@ pub fn number_line(name: &[u8], lines: &mut Lines) -> Result<u32, TextFault>
     Ok(number)
 }
 
-/// The line of an LFBselect at a level: its class and its instance.
+/// The line of an LFBselect at a level: its class and its instance. Else `At` the first word that does not fit, or column 1
+/// where no line stands at that level, of 0 to 20.
 #[tactic(auto, unfolding(crate::specs::LineReading::lfb_at))]
 pub fn select_line(level: usize, lines: &mut Lines) -> Result<(u32, u32), TextFault>
     requires { level ≤ 20 }
@@ -114,7 +122,8 @@ pub fn select_line(level: usize, lines: &mut Lines) -> Result<(u32, u32), TextFa
     Ok((class, instance))
 }
 
-/// The line of an operation at a level, which may stand in a message of a type.
+/// The line of an operation at a level, which may stand in a message of a type. Else `At` the first word that does not fit, or
+/// column 1 where no line stands at that level, of 0 to 20.
 #[tactic(auto, unfolding(crate::specs::LineReading::name_at))]
 pub fn operation_line(message: u8, level: usize, lines: &mut Lines) -> Result<Operation, TextFault>
     requires { level ≤ 20 }
@@ -127,7 +136,9 @@ pub fn operation_line(message: u8, level: usize, lines: &mut Lines) -> Result<Op
     Ok(operation)
 }
 
-/// The line of an ILV at a level.
+/// The line of an ILV at a level. Else `At` the first word that does not fit, or column 1 where no line stands at that level, of
+/// 0 to 20.
+#[inline(always)]
 #[tactic(auto, unfolding(crate::specs::LineReading::ilv_at))]
 pub fn ilv_line<'a>(level: usize, lines: &mut Lines<'a>) -> Result<Numbered<'a>, TextFault>
     requires { level ≤ 20 }
@@ -153,7 +164,8 @@ fn read_code<'a>(mut words: Words<'a>, lines: &mut Lines<'a>) -> Result<u8, Text
     Ok(code)
 }
 
-/// The line of a code at a level.
+/// The line of a code at a level. Else `At` the first word that does not fit, or column 1 where no line stands at that level, of
+/// 0 to 20.
 #[tactic(auto, unfolding(crate::specs::LineReading::outcome_at))]
 pub fn code_line(level: usize, lines: &mut Lines) -> Result<u8, TextFault>
     requires { level ≤ 20 }
@@ -166,6 +178,7 @@ pub fn code_line(level: usize, lines: &mut Lines) -> Result<u8, TextFault>
 }
 
 // The number and the value of a key, with which its line ends.
+#[inline(always)]
 #[tactic(auto, unfolding(crate::specs::LineReading::key_in))]
 fn read_key<'a>(mut words: Words<'a>, lines: &mut Lines<'a>) -> Result<Numbered<'a>, TextFault>
     ensures exact { Lends key_of result (key_in words.entry.0) }
@@ -178,6 +191,7 @@ fn read_key<'a>(mut words: Words<'a>, lines: &mut Lines<'a>) -> Result<Numbered<
 }
 
 // The IDs and the key of a PATH-DATA, with which its line ends.
+#[inline(always)]
 #[tactic(auto, unfolding(crate::specs::LineReading::steps_in))]
 fn read_steps<'a>(mut words: Words<'a>, lines: &mut Lines<'a>) -> Result<PathLine<'a>, TextFault>
     ensures exact { Lends steps_said result (steps_in words.entry.0) }
@@ -185,6 +199,9 @@ fn read_steps<'a>(mut words: Words<'a>, lines: &mut Lines<'a>) -> Result<PathLin
 {
     let first = words.again();
     let mut count = 0usize;
+    'ids: while let Some(_) = words.quick_decimal() {
+        count += 1;
+    }
     'words: while let Some(word) = words.next() {
         if is(word.text, b"key") {
             let key = read_key(words, lines)?;
@@ -205,7 +222,9 @@ fn read_steps<'a>(mut words: Words<'a>, lines: &mut Lines<'a>) -> Result<PathLin
     })
 }
 
-/// The line of a PATH-DATA at a level.
+/// The line of a PATH-DATA at a level. Else `At` the first word that does not fit, or column 1 where no line stands at that
+/// level, of 0 to 20.
+#[inline(always)]
 #[tactic(auto, unfolding(crate::specs::LineReading::steps_at))]
 pub fn path_line<'a>(level: usize, lines: &mut Lines<'a>) -> Result<PathLine<'a>, TextFault>
     requires { level ≤ 20 }
@@ -218,6 +237,7 @@ pub fn path_line<'a>(level: usize, lines: &mut Lines<'a>) -> Result<PathLine<'a>
 }
 
 // The rest of the first line of a body that holds no PATH-DATA.
+#[inline(always)]
 #[tactic(auto, unfolding(crate::specs::LineReading::leaf_head))]
 fn read_leaf<'a>(
     kind: OperKind,
@@ -244,7 +264,9 @@ fn read_leaf<'a>(
     Err(words.misfit(word))
 }
 
-/// The first line, at a level, of the body of a PATH-DATA of an operation, which holds no others.
+/// The first line, at a level, of the body of a PATH-DATA of an operation, which holds no others. Else `At` the first word that
+/// does not fit, or column 1 where no line stands at that level, of 0 to 20.
+#[inline(always)]
 #[tactic(auto, unfolding(crate::specs::LineReading::leaf_head_at))]
 pub fn leaf_line<'a>(
     kind: OperKind,
@@ -260,7 +282,7 @@ pub fn leaf_line<'a>(
     read_leaf(kind, &word, words, lines)
 }
 
-/// Whether a body at a level, in which PATH-DATA may stand, ends before its first line, which is not at this level.
+/// Whether a body has no line: its operation takes none, and no line stands at this level, of 0 to 20.
 #[inline(always)]
 pub fn is_bare(kind: OperKind, level: usize, lines: &Lines) -> bool
     requires { level ≤ 20 }
@@ -270,6 +292,7 @@ pub fn is_bare(kind: OperKind, level: usize, lines: &Lines) -> bool
 }
 
 // The rest of the first line of a body in which PATH-DATA may stand.
+#[inline(always)]
 #[tactic(auto, unfolding(crate::specs::LineReading::body_head))]
 fn read_body<'a>(
     kind: OperKind,
@@ -288,7 +311,9 @@ fn read_body<'a>(
     Ok(BodyLine::Leaf(said))
 }
 
-/// The first line, at a level, of the body of a PATH-DATA of an operation, in which others may stand.
+/// The first line, at a level, of the body of a PATH-DATA of an operation, in which others may stand. Else `At` the first word
+/// that does not fit, or column 1 where no line stands at that level, of 0 to 20.
+#[inline(always)]
 #[tactic(auto, unfolding(crate::specs::LineReading::body_head_at))]
 pub fn body_line<'a>(
     kind: OperKind,

@@ -1,14 +1,16 @@
 // The words of a line, which single spaces part.
-ghost use Rattle.std.specs.Prelude.{◌≡◌, ◌≤◌, ◌<◌, ◌^◌, ◌+◌, ◌++◌, codes, length, take, drop, true, false, Some, None, [], ◌∷◌, option_map};
+ghost use Rattle.std.specs.Prelude.{◌≡◌, ◌≤◌, ◌<◌, ◌^◌, ◌+◌, ◌++◌, codes, length, take, drop, true, false, Some, None, [], ◌∷◌, Ok, IfSome, IfNone};
 ghost use Rattle.std.specs.Str.{bytes_eq};
 ghost use Rattle.fc_lines.specs.TextPlaces.{Gives, Reads, place};
 ghost use Rattle.fc_lines.specs.WordValues.{given, digits_of};
-ghost use Rattle.fc_lines.specs.LineWords.{behind_label as label_text, line_in, behind_line, lines_of, lines_left, IsPlain, EndsWord, open_from, words_left, word_in, ended, exactly as this, decimal_in, digits_in, octets_in, labelled_in, labelled_digits, first_word, rest_words};
+ghost use Rattle.fc_lines.specs.LineWords.{QuickNumber, label_bytes, line_in, behind_line, lines_of, lines_left, IsPlain, EndsWord, open_from, words_left, word_in, ended, exactly as this, decimal_in, digits_in, octets_in, labelled_in, labelled_digits, first_word, rest_words};
 ghost use Rattle.fc_lines.specs.LineReading.{operation_in, type_in};
 ghost use Rattle.fc_lines.specs.declared.fault.TextFault.TheVariants.{At};
 
 use crate::TextFault;
+use crate::front::decimal_in_front;
 use crate::hex_word::HexWord;
+use crate::label::Label;
 use crate::named::{message_named, operation_named};
 use crate::values::{decimal_of, eight_digits_of, sixteen_digits_of, two_digits_of};
 use fc_path::Operation;
@@ -78,29 +80,21 @@ fn word_len(bytes: &[u8]) -> usize
     len
 }
 
-/// What stands in a word behind a label.
 #[inline(always)]
-fn behind<'a>(label: &[u8], word: &'a [u8]) -> Option<&'a [u8]>
-    ensures { option_map (λ x. x.now) result ≡ label_text label.now word.now }
+fn labelled_eight_of(label: Label, word: &[u8]) -> Option<u32>
+    ensures { result ≡ labelled_digits (label_bytes label) 8 word.now }
 {
-    word.strip_prefix(label)
-}
-
-#[inline(always)]
-fn labelled_eight_of(label: &[u8], word: &[u8]) -> Option<u32>
-    ensures { result ≡ labelled_digits label.now 8 word.now }
-{
-    match behind(label, word) {
+    match label.behind(word) {
         Some(digits) => eight_digits_of(digits),
         None => None,
     }
 }
 
 #[inline(always)]
-fn labelled_sixteen_of(label: &[u8], word: &[u8]) -> Option<u64>
-    ensures { result ≡ labelled_digits label.now 16 word.now }
+fn labelled_sixteen_of(label: Label, word: &[u8]) -> Option<u64>
+    ensures { result ≡ labelled_digits (label_bytes label) 16 word.now }
 {
-    match behind(label, word) {
+    match label.behind(word) {
         Some(digits) => sixteen_digits_of(digits),
         None => None,
     }
@@ -128,6 +122,7 @@ fn passed<'a>(line: usize, column: usize, rest: &'a [u8], len: usize) -> (Word<'
     requires line { line < 2 ^ 63 }
     requires room { line + length rest.now ≤ 2 ^ 63 }
     ensures word { first_word (open_from line column true rest.now).0.words ≡ Some result.0 }
+    ensures text { result.0.text ≡ take len rest.now }
     ensures words { result.1.0 ≡ words_left line (column + length (line_in rest.now)) (rest_words (open_from line column true rest.now).0.words) }
     ensures behind { result.1.1 ≡ lines_left line (lines_of (behind_line rest.now)) }
 {
@@ -266,12 +261,31 @@ impl<'a> Words<'a> {
         self.line
     }
 
+    /// The next word as a decimal number, if it is one of at most nine digits. Where it ends is not looked for before.
+    #[inline(always)]
+    pub fn quick_decimal(&mut self) -> Option<u32>
+        ensures some { IfSome result (λ n. QuickNumber n self.old.0 self.new.0) }
+        ensures behind { self.new.1 ≡ self.old.1 }
+        ensures none { IfNone result (self.new ≡ self.old) }
+    {
+        if !self.more {
+            return None;
+        }
+        let (number, len) = decimal_in_front(self.rest)?;
+        let (_, words) = passed(self.line, self.column, self.rest, len);
+        *self = words;
+        Some(number)
+    }
+
     /// The next word as a decimal number.
     #[tactic(auto, unfolding(crate::specs::LineWords::decimal_in))]
     pub fn decimal(&mut self) -> Result<u32, TextFault>
         ensures exact { Reads result (decimal_in self.old.0) self.new.0 }
         ensures behind { self.new.1 ≡ self.old.1 }
     {
+        if let Some(number) = self.quick_decimal() {
+            return Ok(number);
+        }
         let word = self.word()?;
         match decimal_of(word.text) {
             Some(number) => Ok(number),
@@ -305,13 +319,48 @@ impl<'a> Words<'a> {
         }
     }
 
+    // The next word as eight hexadecimal digits behind a label, if it is that. Where it ends is not looked for before.
+    #[inline(always)]
+    #[tactic(auto, unfolding(crate::specs::LineWords::labelled_in))]
+    fn quick_eight(&mut self, label: Label) -> Option<u32>
+        ensures some { IfSome result (λ n. (labelled_in (label_bytes label) 8 self.old.0 ≡ Ok (n, self.new.0)) × (self.new.1 ≡ self.old.1)) }
+        ensures none { IfNone result (self.new ≡ self.old) }
+    {
+        if !self.more {
+            return None;
+        }
+        let (number, len) = label.eight_in_front(self.rest)?;
+        let (_, words) = passed(self.line, self.column, self.rest, len);
+        *self = words;
+        Some(number)
+    }
+
+    // The same of sixteen digits.
+    #[inline(always)]
+    #[tactic(auto, unfolding(crate::specs::LineWords::labelled_in))]
+    fn quick_sixteen(&mut self, label: Label) -> Option<u64>
+        ensures some { IfSome result (λ n. (labelled_in (label_bytes label) 16 self.old.0 ≡ Ok (n, self.new.0)) × (self.new.1 ≡ self.old.1)) }
+        ensures none { IfNone result (self.new ≡ self.old) }
+    {
+        if !self.more {
+            return None;
+        }
+        let (number, len) = label.sixteen_in_front(self.rest)?;
+        let (_, words) = passed(self.line, self.column, self.rest, len);
+        *self = words;
+        Some(number)
+    }
+
     /// The next word as eight hexadecimal digits behind a label.
     #[inline(always)]
     #[tactic(auto, unfolding(crate::specs::LineWords::labelled_in))]
-    pub fn labelled_eight(&mut self, label: &[u8]) -> Result<u32, TextFault>
-        ensures exact { Reads result (labelled_in label.now 8 self.old.0) self.new.0 }
+    pub fn labelled_eight(&mut self, label: Label) -> Result<u32, TextFault>
+        ensures exact { Reads result (labelled_in (label_bytes label) 8 self.old.0) self.new.0 }
         ensures behind { self.new.1 ≡ self.old.1 }
     {
+        if let Some(number) = self.quick_eight(label) {
+            return Ok(number);
+        }
         let word = self.word()?;
         match labelled_eight_of(label, word.text) {
             Some(number) => Ok(number),
@@ -322,10 +371,13 @@ impl<'a> Words<'a> {
     /// The next word as sixteen hexadecimal digits behind a label.
     #[inline(always)]
     #[tactic(auto, unfolding(crate::specs::LineWords::labelled_in))]
-    pub fn labelled_sixteen(&mut self, label: &[u8]) -> Result<u64, TextFault>
-        ensures exact { Reads result (labelled_in label.now 16 self.old.0) self.new.0 }
+    pub fn labelled_sixteen(&mut self, label: Label) -> Result<u64, TextFault>
+        ensures exact { Reads result (labelled_in (label_bytes label) 16 self.old.0) self.new.0 }
         ensures behind { self.new.1 ≡ self.old.1 }
     {
+        if let Some(number) = self.quick_sixteen(label) {
+            return Ok(number);
+        }
         let word = self.word()?;
         match labelled_sixteen_of(label, word.text) {
             Some(number) => Ok(number),
@@ -360,6 +412,7 @@ impl<'a> Words<'a> {
     }
 
     /// The next word as bytes.
+    #[inline(always)]
     #[tactic(auto, unfolding(crate::specs::LineWords::octets_in))]
     pub fn octets(&mut self) -> Result<HexWord<'a>, TextFault>
         ensures exact { Reads result (octets_in self.old.0) self.new.0 }

@@ -1,5 +1,5 @@
 -- What is read of a part is written as it is spelled.
-use Rattle.std.proofs.Common.{◌≡◌, ◌↔◌, ℕ, ◌+◌, ◌-◌, ◌<◌, ◌&&◌, not, nat_lt, Bool, true, false, List, [], ◌∷◌, ◌++◌, length, map, Option, Some, None, IfSome, Result, Ok, Err, OnOk, append_assoc, append-nil, refl, sym, ap, ◌∙◌, subst}
+use Rattle.std.proofs.Common.{◌≡◌, ◌↔◌, ℕ, zero, suc, ◌+◌, ◌-◌, ◌<◌, ◌≤◌, ◌&&◌, not, nat_lt, cond, Bool, true, false, List, [], ◌∷◌, ◌++◌, length, map, Option, IfOk, Result, Ok, Err, OnOk, append_assoc, append-nil, refl, sym, ap, ◌∙◌, subst, arith}
 use Rattle.std.specs.List.{flat_map}
 use Rattle.std.specs.Result.{IsErrOf}
 use Rattle.std.proofs.lemmas.List.{map-append}
@@ -9,11 +9,11 @@ use Rattle.fc_base.specs.declared.faults.WriteFault.TheVariants as faults
 use Rattle.fc_wire.specs.Bytes.{u16_bytes, u32_bytes}
 use Rattle.fc_wire.specs.Writing.{Writing, writing, head_bytes, tlv_bytes}
 use Rattle.fc_path.specs.Canon.{Pushed, Written, after, body_written, joined, key_flags, key_written, oper_written, path_written, plain, select_written, wrapped}
-use Rattle.fc_path.specs.declared.oper.Select.{Select}
 use Rattle.fc_path.specs.declared.path.Body.{Body}
 use Rattle.fc_path.specs.declared.path.Body.TheVariants as body
 use Rattle.fc_path.specs.declared.path.Key.{Key}
-use Rattle.fc_path.proofs.Closing.{and_assoc, both_true, holder, joined_after, joined_fits, path_is}
+use Rattle.fc_path.specs.declared.path.PathData.{PathData}
+use Rattle.fc_path.proofs.Closing.{and_assoc, and_left, and_right, both_true, holder, joined_after, joined_fits, path_is}
 use Rattle.fc_path.specs.Kinds.{takes_nothing}
 use Rattle.fc_path.specs.declared.oper.OperKind.{OperKind}
 use Rattle.fc_path.proofs.InGrammar.{nothing_is}
@@ -22,16 +22,17 @@ use Rattle.fc_lines.specs.LineReading.{Reader}
 use Rattle.fc_lines.specs.LineWords.{LinesLeft, stands_at}
 use Rattle.fc_lines.specs.TextPlaces.{TextPlace}
 use Rattle.fc_text.specs.HeadedReading.{path_of, paths_of}
-use Rattle.fc_text.specs.TextReading.{body_by, last_body, many_at, oper_at, path_data, path_line, some_at}
+use Rattle.fc_text.specs.TextReading.{and_more, body_by, each_at, last_body, many_at, oper_at, path_data, path_line, some_at}
 use Rattle.fc_text.proofs.HeadedLines.{LineThen, select_of}
-use Rattle.fc_text.proofs.Loops.{Going, begins, begins_paths, begins_some, ends, fails, goes}
-use Rattle.fc_making.specs.Writes.{Writes, refused, steps_written, unwritten_by}
+use Rattle.fc_text.proofs.Loops.{Going, behind, begins, begins_paths, begins_some, fails, fails_bind, goes}
+use Rattle.fc_making.specs.Writes.{Refuses, Writes, steps_written, unwritten_by}
 use Rattle.fc_making.specs.declared.unwritten.Unwritten.{Unwritten}
 use Rattle.fc_making.specs.declared.unwritten.Unwritten.TheVariants as unwritten
 
--- reading fails at the place that is told
-abbrev pub Refuses : {X : Type 0} → Unwritten → Result X TextPlace → Type 0
-Refuses error read = IfSome (refused error) (λ p. read ≡ Err p)
+-- what a call answers that writes, after what its own call answers
+abbrev pub answered : Result (Unit {0}) WriteFault → Result (Unit {0}) Unwritten
+answered (Ok done) = Ok done
+answered (Err fault) = Err (unwritten_by fault)
 
 -- something is read, and its spelling appended
 abbrev pub Wrote : {X : Type 0} → Result (X × LinesLeft) TextPlace → LinesLeft → (X → Written) → Writing → Writing → Type 0
@@ -44,27 +45,29 @@ pushed_join x y a b c m n = (
   n.1 ∙ ap (λ (w : Writing). writing (w.text ++ y.text) w.places) m.1 ∙ ap (λ l. writing l a.places) (append_assoc a.text x.text y.text),
 )
 
--- a TLV that ends
-pub closed : (old w0 w1 new : Writing) (inner : Written) (kind begun : ℕ) (r : Result (Unit {0}) WriteFault) → r ≡ Ok tt → begun ≡ length old.text → w0 ≡ writing (old.text ++ head_bytes kind) (old.places ++ length old.text ∷ [])
-    → Pushed (Ok tt) w0 w1 inner → ((base value outer : List ℕ) (kind : ℕ) → w1 ≡ writing (base ++ (head_bytes kind ++ value)) (outer ++ length base ∷ []) → OnOk r (new ≡ writing (base ++ tlv_bytes kind value) outer))
-    → IsErrOf r faults.TooLong ↔ (65535 < length w1.text - begun) → Pushed (Ok tt) old new (wrapped kind inner)
-closed old w0 w1 new inner kind begun r e b head h ok long = subst (λ r. Pushed r old new (wrapped kind inner)) e (holder old w0 w1 new inner kind begun r b head h ok long)
-
--- a fault of writing tells no place
-pub not_refused : {X : Type 0} (fault : WriteFault) (read : Result X TextPlace) → Refuses (unwritten_by fault) read
-not_refused faults.TooLong read = tt
-not_refused faults.Memory read = tt
-
--- the faults of a reader that goes on behind another
-pub refuses_bind : {A B : Type 0} (error : Unwritten) (r : Result A TextPlace) (f : A → Result B TextPlace) → Refuses error r → Refuses error (r >>= f)
-refuses_bind error r f h = by (refused error) h
+-- what is read is written, or does not fit
+pub writes : {X : Type 0} (read : Result (X × LinesLeft) TextPlace) (rest : LinesLeft) (spelling : X → Written) (x : X) (old new : Writing) (r : Result (Unit {0}) WriteFault) (out : Result (Unit {0}) Unwritten) → answered r ≡ out
+    → read ≡ Ok (x, rest) → Pushed r old new (spelling x) → Writes out read rest spelling old new
+writes {X = X} read rest spelling x old new r out e is p = subst (λ out. Writes out read rest spelling old new) e (by r p)
   where
-    by : (o : Option TextPlace) → IfSome o (λ p. r ≡ Err p) → IfSome o (λ p. (r >>= f) ≡ Err p)
-    by None h = tt
-    by (Some p) h = ap (λ q. q >>= f) h
+    by : (r : Result (Unit {0}) WriteFault) → Pushed r old new (spelling x) → Writes (answered r) read rest spelling old new
+    by (Ok done) p = (x, is, p)
+    by (Err faults.TooLong) p = subst (λ (q : Result (X × LinesLeft) TextPlace). Refuses unwritten.TooLong q (λ x. (spelling x).fits)) (sym is) p
+    by (Err faults.Memory) p = tt
 
-pub refuses_line : {X Y : Type 0} (error : Unwritten) (head : Result (X × LinesLeft) TextPlace) (behind : X → Reader Y) (whole : Result (Y × LinesLeft) TextPlace) → LineThen head behind ≡ whole → Refuses error head → Refuses error whole
-refuses_line {Y = Y} error head behind whole is h = subst (λ (w : Result (Y × LinesLeft) TextPlace). Refuses error w) is (refuses_bind error head _ h)
+-- what is not written of a reader that goes on behind another
+module _ {A B : Type 0} (fits : A → Bool) (whole : B → Bool) where
+  pub refuses_bind : (error : Unwritten) (r : Result (A × LinesLeft) TextPlace) (f : A × LinesLeft → Result (B × LinesLeft) TextPlace) → ((a : A) (left : LinesLeft) → fits a ≡ false → IfOk (f (a, left)) (λ b. whole b.0 ≡ false))
+      → Refuses error r fits → Refuses error (r >>= f) whole
+  refuses_bind (unwritten.Fault fault) r f long h = fails_bind r f fault h
+  refuses_bind unwritten.TooLong (Ok a) f long h = long a.0 a.1 h
+  refuses_bind unwritten.TooLong (Err p) f long h = tt
+
+-- the same of what holds it
+pub refuses_as : {X : Type 0} (fits whole : X → Bool) (error : Unwritten) (r : Result (X × LinesLeft) TextPlace) → ((x : X) → fits x ≡ false → whole x ≡ false) → Refuses error r fits → Refuses error r whole
+refuses_as fits whole (unwritten.Fault fault) r long h = h
+refuses_as fits whole unwritten.TooLong (Ok x) long h = long x.0 h
+refuses_as fits whole unwritten.TooLong (Err p) long h = tt
 
 -- what is read behind a line that was read
 pub writes_line : {X Y : Type 0} (head : Result (X × LinesLeft) TextPlace) (behind : X → Reader Y) (whole : Result (Y × LinesLeft) TextPlace) (x : X) (mid rest : LinesLeft) (r : Result (Unit {0}) Unwritten) (spelling : Y → Written) (old new : Writing)
@@ -77,7 +80,12 @@ pub writes_as : {X Y : Type 0} (r : Result (Unit {0}) Unwritten) (read : Result 
     → ((x : X) → other (f x) ≡ spelling x) → Writes r read rest spelling old new → Writes r (read >>= λ x. Ok (f x.0, x.1)) rest other old new
 writes_as (Ok done) read rest f spelling other old new same (x, e, p) =
     (f x, ap (λ q. q >>= λ x. Ok (f x.0, x.1)) e, subst (Pushed (Ok tt) old new) (sym (same x)) p)
-writes_as (Err error) read rest f spelling other old new same h = refuses_bind error read _ h
+writes_as (Err error) read rest f spelling other old new same h =
+    refuses_bind (λ x. (spelling x).fits) (λ y. (other y).fits) error read _ (λ x left long. ap (λ (w : Written). w.fits) (same x) ∙ long) h
+
+some_left : (level : ℕ) (lines : List (List ℕ)) → stands_at level lines ≡ true → 0 < length lines
+some_left level [] h = cc
+some_left level (line ∷ lines) h = omega arith
 
 -- several items, of which those in front are read and written
 pub record Going_on {X : Type 0} (level : ℕ) (one : Reader X) (spelling : X → Written) (left : LinesLeft) (all : Result (List X × LinesLeft) TextPlace) (old now : Writing) : Type 0 where
@@ -112,12 +120,41 @@ module _ {X : Type 0} (level : ℕ) (one : Reader X) (spelling : X → Written) 
         );
       }
 
-  pub one_refused : (left : LinesLeft) (all : Result (List X × LinesLeft) TextPlace) (old now : Writing) (error : Unwritten) → Going_on level one spelling left all old now → stands_at level left.lines ≡ true → Refuses error (one left) → Refuses error all
-  one_refused left all old now (unwritten.Fault fault) g st h = fails level one g.front left all fault g.going st h
-  one_refused left all old now unwritten.TooLong g st h = tt
+  -- one of them does not fit
+  more_long : (front : List X) (x : X) (r : Result (List X × LinesLeft) TextPlace) → (spelling x).fits ≡ false → IfOk (and_more x r >>= behind front) (λ xs. (joined (map spelling xs.0)).fits ≡ false)
+  more_long front x (Err p) long = tt
+  more_long front x (Ok xs) long =
+      ap (λ ws. (joined ws).fits) (map-append spelling front (x ∷ xs.0)) ∙ joined_fits (map spelling front) (map spelling (x ∷ xs.0)) ∙ and_right _ _ (and_left _ _ long)
 
-  pub all_written : (left : LinesLeft) (all : Result (List X × LinesLeft) TextPlace) (old now : Writing) → Going_on level one spelling left all old now → stands_at level left.lines ≡ false → Wrote all left (λ xs. joined (map spelling xs)) old now
-  all_written left all old now g st = (g.front, ends level one g.front left all g.going st, g.pushed)
+  one_long : (k : ℕ) (front : List X) (r : Result (X × LinesLeft) TextPlace) → IfOk r (λ x. (spelling x.0).fits ≡ false)
+      → IfOk ((r >>= λ x. and_more x.0 (each_at k level one x.1)) >>= behind front) (λ xs. (joined (map spelling xs.0)).fits ≡ false)
+  one_long k front (Err p) long = tt
+  one_long k front (Ok x) long = more_long front x.0 (each_at k level one x.1) long
+
+  goes_long : (fuel : ℕ) (front : List X) (left : LinesLeft) (all : Result (List X × LinesLeft) TextPlace) → length left.lines ≤ fuel → (each_at fuel level one left >>= behind front) ≡ all → stands_at level left.lines ≡ true
+      → IfOk (one left) (λ x. (spelling x.0).fits ≡ false) → IfOk all (λ xs. (joined (map spelling xs.0)).fits ≡ false)
+  goes_long zero front left all enough h st long = let some : 0 < length left.lines = some_left level left.lines st in absurd (omega arith)
+  goes_long (suc k) front left all enough h st long =
+      subst (λ (r : Result (List X × LinesLeft) TextPlace). IfOk r (λ xs. (joined (map spelling xs.0)).fits ≡ false))
+      (ap (λ b. cond b (one left >>= λ x. and_more x.0 (each_at k level one x.1)) (Ok ([], left)) >>= behind front) (sym st) ∙ h)
+      (one_long k front (one left) long)
+
+  pub one_refused : (left : LinesLeft) (all : Result (List X × LinesLeft) TextPlace) (old now : Writing) (error : Unwritten) → Going_on level one spelling left all old now → stands_at level left.lines ≡ true → Refuses error (one left) (λ x. (spelling x).fits)
+      → Refuses error all (λ xs. (joined (map spelling xs)).fits)
+  one_refused left all old now (unwritten.Fault fault) g st h = fails level one g.front left all fault g.going st h
+  one_refused left all old now unwritten.TooLong g st h = goes_long g.going.fuel g.front left all g.going.enough g.going.so_far st h
+
+  -- the first of them does not fit
+  first_long : (x : X) (r : Result (List X × LinesLeft) TextPlace) → (spelling x).fits ≡ false → IfOk (and_more x r) (λ xs. (joined (map spelling xs.0)).fits ≡ false)
+  first_long x (Err p) long = tt
+  first_long x (Ok xs) long = and_left _ _ long
+
+  pub first_refused : (error : Unwritten) (r : Result (X × LinesLeft) TextPlace) → Refuses error r (λ x. (spelling x).fits) → Refuses error (r >>= λ x. and_more x.0 (many_at level one x.1)) (λ xs. (joined (map spelling xs)).fits)
+  first_refused error r h = refuses_bind (λ x. (spelling x).fits) (λ xs. (joined (map spelling xs)).fits) error r _ (λ x left long. first_long x (many_at level one left) long) h
+
+  pub some_refused : (left : LinesLeft) (error : Unwritten) → Refuses error (one left) (λ x. (spelling x).fits) → Refuses error (some_at level one left) (λ xs. (joined (map spelling xs)).fits)
+  unfolding some_at
+  some_refused left error h = first_refused error (one left) h
 
 -- PATH-DATA
 abbrev pub Steps : Type 0
@@ -135,16 +172,15 @@ path_parts steps b =
     ∙ ap (λ f. wrapped 272 (written (front ++ (key.text ++ inner.text)) f)) (and_assoc (nat_lt (length steps.0) 65536) key.fits inner.fits)
     ∙ sym (path_is (path_data steps b))
 
-pub path_done : (inside : ℕ → Reader Body) (level : ℕ) (steps : Steps) (left rest : LinesLeft) (old w0 w1 w2 new : Writing) (begun : ℕ) (r : Result (Unit {0}) WriteFault) → r ≡ Ok tt → begun ≡ length old.text
-    → w0 ≡ writing (old.text ++ head_bytes 272) (old.places ++ length old.text ∷ []) → Pushed (Ok tt) w0 w1 (steps_written steps) → Wrote (inside (level + 1) left) rest body_written w1 w2
+pub path_done : (inside : ℕ → Reader Body) (level : ℕ) (steps : Steps) (left rest : LinesLeft) (old w0 w1 w2 new : Writing) (begun : ℕ) (r : Result (Unit {0}) WriteFault) (out : Result (Unit {0}) Unwritten) → answered r ≡ out
+    → begun ≡ length old.text → w0 ≡ writing (old.text ++ head_bytes 272) (old.places ++ length old.text ∷ []) → Pushed (Ok tt) w0 w1 (steps_written steps) → Wrote (inside (level + 1) left) rest body_written w1 w2
     → ((base value outer : List ℕ) (kind : ℕ) → w2 ≡ writing (base ++ (head_bytes kind ++ value)) (outer ++ length base ∷ []) → OnOk r (new ≡ writing (base ++ tlv_bytes kind value) outer))
-    → IsErrOf r faults.TooLong ↔ (65535 < length w2.text - begun) → Wrote (path_of inside level steps left) rest path_written old new
+    → IsErrOf r faults.TooLong ↔ (65535 < length w2.text - begun) → Writes out (path_of inside level steps left) rest path_written old new
 unfolding path_of
-path_done inside level steps left rest old w0 w1 w2 new begun r e b head s (x, is, p) ok long = (
-  path_data steps x,
-  ap (λ q. q >>= λ b. Ok (path_data steps b.0, b.1)) is,
-  subst (Pushed (Ok tt) old new) (path_parts steps x) (closed old w0 w2 new (after (steps_written steps) (body_written x)) 272 begun r e b head (pushed_join (steps_written steps) (body_written x) w0 w1 w2 s p) ok long),
-)
+path_done inside level steps left rest old w0 w1 w2 new begun r out e b head s (x, is, p) ok long =
+    writes (path_of inside level steps left) rest path_written (path_data steps x) old new r out e
+    (ap (λ q. q >>= λ b. Ok (path_data steps b.0, b.1)) is)
+    (subst (Pushed r old new) (path_parts steps x) (holder old w0 w2 new (after (steps_written steps) (body_written x)) 272 begun r b head (pushed_join (steps_written steps) (body_written x) w0 w1 w2 s p) ok long))
 
 pub first_path : (inside : ℕ → Reader Body) (level : ℕ) (steps : Steps) (left rest : LinesLeft) (old new : Writing) → Wrote (path_of inside level steps left) rest path_written old new
     → Going_on level (path_line inside level) path_written rest (paths_of inside level steps left) old new
@@ -154,17 +190,29 @@ first_path inside level steps left rest old new (x, e, p) = record {
   pushed = (both_true _ _ p.0 refl, p.1 ∙ ap (λ l. writing (old.text ++ l) old.places) (sym (append-nil (path_written x).text)));
 }
 
-pub path_refused : (inside : ℕ → Reader Body) (level : ℕ) (steps : Steps) (left : LinesLeft) (error : Unwritten) → Refuses error (inside (level + 1) left) → Refuses error (path_of inside level steps left)
+-- a PATH-DATA that does not fit
+path_fits : (steps : Steps) (b : Body) → ((steps_written steps).fits && (body_written b).fits) ≡ false → (path_written (path_data steps b)).fits ≡ false
+path_fits steps b long = ap (λ (w : Written). w.fits) (sym (path_parts steps b)) ∙ and_right _ _ long
+
+pub path_refused : (inside : ℕ → Reader Body) (level : ℕ) (steps : Steps) (left : LinesLeft) (error : Unwritten) → Refuses error (inside (level + 1) left) (λ b. (body_written b).fits) → Refuses error (path_of inside level steps left) (λ p. (path_written p).fits)
 unfolding path_of
-path_refused inside level steps left error h = refuses_bind error (inside (level + 1) left) _ h
+path_refused inside level steps left error h =
+    refuses_bind (λ b. (body_written b).fits) (λ p. (path_written p).fits) error (inside (level + 1) left) _ (λ b rest long. path_fits steps b (and_right (steps_written steps).fits _ long)) h
 
-pub paths_refused : (inside : ℕ → Reader Body) (level : ℕ) (steps : Steps) (left : LinesLeft) (error : Unwritten) → Refuses error (path_of inside level steps left) → Refuses error (paths_of inside level steps left)
+pub steps_refused : (inside : ℕ → Reader Body) (level : ℕ) (steps : Steps) (left : LinesLeft) (old new : Writing) (fault : WriteFault) → Pushed (Err fault) old new (steps_written steps)
+    → Refuses (unwritten_by fault) (path_of inside level steps left) (λ p. (path_written p).fits)
+unfolding path_of
+steps_refused inside level steps left old new faults.TooLong h = by (inside (level + 1) left)
+  where
+    by : (r : Result (Body × LinesLeft) TextPlace) → IfOk {T = PathData × LinesLeft} (r >>= λ b. Ok (path_data steps b.0, b.1)) (λ p. (path_written p.0).fits ≡ false)
+    by (Ok b) = path_fits steps b.0 (and_left _ _ h)
+    by (Err p) = tt
+steps_refused inside level steps left old new faults.Memory h = tt
+
+pub paths_refused : (inside : ℕ → Reader Body) (level : ℕ) (steps : Steps) (left : LinesLeft) (error : Unwritten) → Refuses error (path_of inside level steps left) (λ p. (path_written p).fits)
+    → Refuses error (paths_of inside level steps left) (λ ps. (joined (map path_written ps)).fits)
 unfolding paths_of
-paths_refused inside level steps left error h = refuses_bind error (path_of inside level steps left) _ h
-
-pub some_refused : {X : Type 0} (level : ℕ) (one : Reader X) (left : LinesLeft) (error : Unwritten) → Refuses error (one left) → Refuses error (some_at level one left)
-unfolding some_at
-some_refused level one left error h = refuses_bind error (one left) _ h
+paths_refused inside level steps left error h = first_refused level (path_line inside level) path_written error (path_of inside level steps left) h
 
 -- bodies of PATH-DATA
 pub nothing_written : (w : Writing) → Pushed (Ok tt) w w (body_written body.Nothing)
@@ -179,25 +227,30 @@ unfolding body_by
 bare_nothing kind inside level left w bare = (body.Nothing, stay (takes_nothing kind && not (stands_at level left.lines)) _ _ bare, nothing_written w)
 
 -- an LFBselect
-select_parts : (s : Select) → wrapped 4096 (after (plain (u32_bytes s.class ++ u32_bytes s.instance)) (joined (map oper_written s.opers))) ≡ select_written s
-select_parts s = refl
-
-pub select_done : (message level : ℕ) (names : ℕ × ℕ) (left rest : LinesLeft) (old w0 w1 w2 new : Writing) (begun : ℕ) (r : Result (Unit {0}) WriteFault) → r ≡ Ok tt → begun ≡ length old.text
+pub select_done : (message level : ℕ) (names : ℕ × ℕ) (left rest : LinesLeft) (old w0 w1 w2 new : Writing) (begun : ℕ) (r : Result (Unit {0}) WriteFault) (out : Result (Unit {0}) Unwritten) → answered r ≡ out → begun ≡ length old.text
     → w0 ≡ writing (old.text ++ head_bytes 4096) (old.places ++ length old.text ∷ []) → w1 ≡ writing (w0.text ++ (u32_bytes names.0 ++ u32_bytes names.1)) w0.places
     → Wrote (some_at (level + 1) (oper_at message (level + 1)) left) rest (λ opers. joined (map oper_written opers)) w1 w2
     → ((base value outer : List ℕ) (kind : ℕ) → w2 ≡ writing (base ++ (head_bytes kind ++ value)) (outer ++ length base ∷ []) → OnOk r (new ≡ writing (base ++ tlv_bytes kind value) outer))
-    → IsErrOf r faults.TooLong ↔ (65535 < length w2.text - begun) → Wrote (select_of message level names left) rest select_written old new
-select_done message level names left rest old w0 w1 w2 new begun r e b head put (x, is, p) ok long =
+    → IsErrOf r faults.TooLong ↔ (65535 < length w2.text - begun) → Writes out (select_of message level names left) rest select_written old new
+select_done message level names left rest old w0 w1 w2 new begun r out e b head put (x, is, p) ok long =
     let front = plain (u32_bytes names.0 ++ u32_bytes names.1) in
-    let opers = joined (map oper_written x) in (
-      record { class = names.0; instance = names.1; opers = x },
-      ap (λ q. q >>= λ opers. Ok (record { class = names.0; instance = names.1; opers = opers.0 }, opers.1)) is,
-      closed old w0 w2 new (after front opers) 4096 begun r e b head (pushed_join front opers w0 w1 w2 (refl, put) p) ok long,
-    )
+    let opers = joined (map oper_written x) in
+    writes (select_of message level names left) rest select_written (record { class = names.0; instance = names.1; opers = x }) old new r out e
+    (ap (λ q. q >>= λ opers. Ok (record { class = names.0; instance = names.1; opers = opers.0 }, opers.1)) is)
+    (holder old w0 w2 new (after front opers) 4096 begun r b head (pushed_join front opers w0 w1 w2 (refl, put) p) ok long)
 
--- an operation that holds PATH-DATA
-pub held : {X : Type 0} (read : Result (X × LinesLeft) TextPlace) (rest : LinesLeft) (spelling : X → Written) (old w0 w1 new : Writing) (kind begun : ℕ) (r : Result (Unit {0}) WriteFault) → r ≡ Ok tt → begun ≡ length old.text
-    → w0 ≡ writing (old.text ++ head_bytes kind) (old.places ++ length old.text ∷ []) → Wrote read rest spelling w0 w1
+pub select_refused : (message level : ℕ) (names : ℕ × ℕ) (left : LinesLeft) (error : Unwritten) → Refuses error (some_at (level + 1) (oper_at message (level + 1)) left) (λ opers. (joined (map oper_written opers)).fits)
+    → Refuses error (select_of message level names left) (λ s. (select_written s).fits)
+select_refused message level names left error h =
+    refuses_bind (λ opers. (joined (map oper_written opers)).fits) (λ s. (select_written s).fits) error (some_at (level + 1) (oper_at message (level + 1)) left) _ (λ opers rest long. and_right _ _ long) h
+
+-- a TLV that holds what is read
+pub held : {X : Type 0} (read : Result (X × LinesLeft) TextPlace) (rest : LinesLeft) (spelling : X → Written) (old w0 w1 new : Writing) (kind begun : ℕ) (r : Result (Unit {0}) WriteFault) (out : Result (Unit {0}) Unwritten) → answered r ≡ out
+    → begun ≡ length old.text → w0 ≡ writing (old.text ++ head_bytes kind) (old.places ++ length old.text ∷ []) → Wrote read rest spelling w0 w1
     → ((base value outer : List ℕ) (kind : ℕ) → w1 ≡ writing (base ++ (head_bytes kind ++ value)) (outer ++ length base ∷ []) → OnOk r (new ≡ writing (base ++ tlv_bytes kind value) outer))
-    → IsErrOf r faults.TooLong ↔ (65535 < length w1.text - begun) → Wrote read rest (λ x. wrapped kind (spelling x)) old new
-held read rest spelling old w0 w1 new kind begun r e b head (x, is, p) ok long = (x, is, closed old w0 w1 new (spelling x) kind begun r e b head p ok long)
+    → IsErrOf r faults.TooLong ↔ (65535 < length w1.text - begun) → Writes out read rest (λ x. wrapped kind (spelling x)) old new
+held read rest spelling old w0 w1 new kind begun r out e b head (x, is, p) ok long =
+    writes read rest (λ x. wrapped kind (spelling x)) x old new r out e is (holder old w0 w1 new (spelling x) kind begun r b head p ok long)
+
+pub held_refused : {X : Type 0} (read : Result (X × LinesLeft) TextPlace) (spelling : X → Written) (kind : ℕ) (error : Unwritten) → Refuses error read (λ x. (spelling x).fits) → Refuses error read (λ x. (wrapped kind (spelling x)).fits)
+held_refused read spelling kind error h = refuses_as (λ x. (spelling x).fits) (λ x. (wrapped kind (spelling x)).fits) error read (λ x long. and_right _ _ long) h

@@ -8,4 +8,5 @@ mod write_message;
 mod write_path;
 mod write_select;
 
+pub use fc_lines::TextFault;
 pub use making::make_bytes;

@@ -5,22 +5,22 @@ ghost use Rattle.fc_msg.specs.Messages.{canonical};
 ghost use Rattle.fc_msg.specs.declared.message.Message.{Message as Spelled};
 ghost use Rattle.fc_text.specs.FirstMisfit.{FirstMisfit, FitsMessages, IsWithin, TooLongAt};
 ghost use Rattle.fc_making.specs.Making.{Makes};
+ghost use Rattle.fc_making.specs.Writes.{long_at};
 ghost use Rattle.fc_text.specs.TextGrammar.{SpellsText};
 ghost use Rattle.fc_lines.specs.TextPlaces.{Fails, RefusedAt};
 ghost use Rattle.fc_text.specs.TextReading.{many_at, message_at, text_in};
 
 use crate::unwritten::Unwritten;
 use crate::write_message::write_message;
-use fc_base::WriteFault;
 use fc_lines::{Lines, TextFault};
-use fc_msg::encode;
 use fc_text::read_whole;
 use fc_wire::TlvWriter;
 use std::alloc::Global;
 
 /// Appends the canonical bytes of the messages of a text in the layout of `show` (this profile's own), or refuses it as
-/// `read_text` does, by line and column, both from 1. Each message is written while it is read, so that no more
-/// than the bytes of one are held. After an `Err` nothing has changed.
+/// `read_text` does, by line and column, both from 1. What a line says is written as soon as it is read, to a buffer for the body
+/// of its message, which is then appended. Where a length passes its field, the message is read again whole, to tell at which line it
+/// is refused. After an `Err` nothing has changed.
 pub fn make_bytes(alloc: Global, text: &[u8], into: &mut Vec<u8>) -> Result<(), TextFault>
     ensures exact { Makes result (text_in text.now) into.old.items into.new.items }
     ensures spelled { OnOk result ((ms : List Spelled) × (text_in text.now ≡ Ok ms) × SpellsText ms text.now × (into.new.items ≡ into.old.items ++ flat_map canonical ms)) }
@@ -75,10 +75,10 @@ fn make_messages(
 }
 
 // Appends the bytes of the message in front of lines. After an `Err` nothing is appended.
-fn make_message<'a>(
+fn make_message(
     alloc: Global,
     writer: &mut TlvWriter,
-    lines: &mut Lines<'a>,
+    lines: &mut Lines,
     into: &mut Vec<u8>,
 ) -> Result<(), TextFault>
     ensures made { OnOk result ((m : Spelled) × (message_at lines.old ≡ Ok (m, lines.new)) × (into.new.items ≡ into.old.items ++ canonical m)) }
@@ -86,33 +86,22 @@ fn make_message<'a>(
     ensures none { OnErr result (into.new.items ≡ into.old.items) }
     ensures less { OnOk result (length lines.new.lines < length lines.old.lines) }
 {
-    let mut start = lines.again();
+    let start = lines.again();
     match write_message(writer, lines, into) {
         Ok(()) => Ok(()),
         Err(Unwritten::Fault(fault)) => Err(fault),
-        Err(Unwritten::TooLong) => {
-            make_long(alloc, &mut start, into)?;
-            *lines = start;
-            Ok(())
-        }
+        Err(Unwritten::TooLong) => Err(fault_of_long(alloc, start)),
     }
 }
 
-// Appends the bytes of the message in front of lines by way of the message, as for one whose lengths may pass their fields:
-// where it can't be encoded, it is refused at its first line, unless something in it does not fit. After an `Err` nothing is
-// appended.
-#[tactic(auto, unfolding(fc_text::specs::TextReading::message_at))]
-fn make_long(alloc: Global, lines: &mut Lines, into: &mut Vec<u8>) -> Result<(), TextFault>
-    ensures made { OnOk result ((m : Spelled) × (message_at lines.old ≡ Ok (m, lines.new)) × (into.new.items ≡ into.old.items ++ canonical m)) }
-    ensures refused { IfErr result (λ fault. Fails fault (message_at lines.old)) }
-    ensures none { OnErr result (into.new.items ≡ into.old.items) }
-    ensures less { OnOk result (length lines.new.lines < length lines.old.lines) }
+// Where the message in front of lines is refused, which can't be encoded: at the first fault of its lines, or else at its first
+// line.
+fn fault_of_long(alloc: Global, mut lines: Lines) -> TextFault
+    ensures { Fails result (long_at lines.entry) }
 {
     let first = lines.misplaced();
-    let message = read_whole(alloc, lines)?;
-    match encode(&message, into) {
-        Ok(()) => Ok(()),
-        Err(WriteFault::TooLong) => Err(first),
-        Err(WriteFault::Memory) => Err(TextFault::Memory),
+    match read_whole(alloc, &mut lines) {
+        Ok(_) => first,
+        Err(fault) => fault,
     }
 }

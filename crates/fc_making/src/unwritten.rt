@@ -12,7 +12,7 @@ use fc_lines::TextFault;
 pub enum Unwritten {
     /// The text is refused here, or there was no memory.
     Fault(TextFault),
-    /// A length passes its field. Whether the text is refused before its message ends is not known.
+    /// A length passes its field, so that the message is refused: at the first fault of its lines, or else at its first line.
     TooLong,
 }
 

@@ -13,9 +13,13 @@ use fc_lines::{HexWord, Numbered, Numbers, PathLine};
 use fc_wire::{FULL_DATA, KEY_INFO, TlvWriter};
 
 // Puts the bytes of a word.
+#[inline(always)]
 fn put_bytes(to: &mut TlvWriter, mut word: HexWord) -> Result<(), Memory>
     ensures { OnOk result (to.new ≡ writing (to.old.text ++ word.entry) to.old.places) }
 {
+    'fours: while let Some(number) = word.next_four() {
+        to.put_u32(number)?;
+    }
     'bytes: while let Some(byte) = word.next() {
         to.put(&[byte])?;
     }
@@ -23,6 +27,7 @@ fn put_bytes(to: &mut TlvWriter, mut word: HexWord) -> Result<(), Memory>
 }
 
 // Puts IDs, each in four bytes.
+#[inline(always)]
 fn put_numbers(to: &mut TlvWriter, mut numbers: Numbers) -> Result<(), Memory>
     ensures { OnOk result (to.new ≡ writing (to.old.text ++ flat_map u32_bytes numbers.entry) to.old.places) }
 {
@@ -33,6 +38,7 @@ fn put_numbers(to: &mut TlvWriter, mut numbers: Numbers) -> Result<(), Memory>
 }
 
 /// Writes a FULLDATA.
+#[inline(always)]
 pub fn write_full(to: &mut TlvWriter, word: HexWord) -> Result<(), WriteFault>
     ensures { Pushed result to.old to.new (wrapped types.full_data (plain word.entry)) }
 {
@@ -58,6 +64,7 @@ pub fn write_ilv(to: &mut TlvWriter, said: Numbered) -> Result<(), WriteFault>
 }
 
 // A KEYINFO.
+#[inline(always)]
 fn write_key_info(to: &mut TlvWriter, said: Numbered) -> Result<(), WriteFault>
     ensures { Pushed result to.old to.new (key_written (Some (key_of said.entry))) }
 {
@@ -69,6 +76,7 @@ fn write_key_info(to: &mut TlvWriter, said: Numbered) -> Result<(), WriteFault>
 }
 
 // A KEYINFO, where there is a key.
+#[inline(always)]
 fn write_key(to: &mut TlvWriter, said: Option<Numbered>) -> Result<(), WriteFault>
     ensures { Pushed result to.old to.new (key_written (option_map key_of said.entry)) }
 {
@@ -89,6 +97,7 @@ fn flags_of(key: &Option<Numbered>) -> u16
 }
 
 /// Writes what stands in a PATH-DATA in front of its body.
+#[inline(always)]
 pub fn write_steps(to: &mut TlvWriter, said: PathLine) -> Result<(), WriteFault>
     ensures { Pushed result to.old to.new (steps_written (steps_said said.entry)) }
 {

@@ -1,13 +1,13 @@
 // Writing a message while its lines are read.
-ghost use Rattle.std.specs.Prelude.{◌≡◌, ◌≤◌, ◌<◌, ◌++◌, length, Ok, Err, IfSome, IfErr, OnOk, OnErr};
+ghost use Rattle.std.specs.Prelude.{◌≡◌, ◌≤◌, ◌<◌, ◌++◌, length, Ok, IfErr, OnOk, OnErr};
 ghost use Rattle.fc_wire.specs.Bytes.{u32_bytes};
 ghost use Rattle.fc_wire.specs.Writing.{writing};
 ghost use Rattle.fc_path.specs.Canon.{plain, wrapped};
-ghost use Rattle.fc_msg.specs.Messages.{body_written, canonical};
+ghost use Rattle.fc_msg.specs.Messages.{body_written, canonical, message_fits};
 ghost use Rattle.fc_msg.specs.declared.message.Message.{Message as Spelled};
 ghost use Rattle.fc_lines.specs.LineReading.{number_at};
-ghost use Rattle.fc_text.specs.TextReading.{content_at, message_at};
-ghost use Rattle.fc_making.specs.Writes.{Writes, header_for, refused};
+ghost use Rattle.fc_text.specs.TextReading.{content_at, message_at, whole_at};
+ghost use Rattle.fc_making.specs.Writes.{Refuses, Writes, header_for};
 
 use crate::unwritten::Unwritten;
 use crate::write_select::{write_selects, write_some_selects};
@@ -67,15 +67,15 @@ fn header_of(head: Head) -> Header
     }
 }
 
-/// Appends the bytes of the message in front of lines, or tells where it is refused, or that a length passes its field. After
-/// an `Err` nothing is appended. The writer is used for its room alone.
+/// Appends the bytes of the message in front of lines, or tells where it is refused, or that it does not fit, as a length passes its
+/// field. After an `Err` nothing is appended. The writer is used for its room alone.
 pub fn write_message(
     to: &mut TlvWriter,
     lines: &mut Lines,
     into: &mut Vec<u8>,
 ) -> Result<(), Unwritten>
     ensures made { OnOk result ((m : Spelled) × (message_at lines.old ≡ Ok (m, lines.new)) × (into.new.items ≡ into.old.items ++ canonical m)) }
-    ensures not { IfErr result (λ error. IfSome (refused error) (λ p. message_at lines.old ≡ Err p)) }
+    ensures not { IfErr result (λ error. Refuses error (whole_at lines.old) message_fits) }
     ensures none { OnErr result (into.new.items ≡ into.old.items) }
     ensures less { OnOk result (length lines.new.lines < length lines.old.lines) }
 {

@@ -51,6 +51,7 @@ fn write_sparse(to: &mut TlvWriter, level: usize, lines: &mut Lines) -> Result<(
 }
 
 // The body at a level whose first line says this, and that holds no PATH-DATA.
+#[inline(always)]
 fn write_leaf(
     to: &mut TlvWriter,
     level: usize,
@@ -75,6 +76,7 @@ fn write_leaf(
 }
 
 // A body at a level, inside of which no more PATH-DATA may stand.
+#[inline(always)]
 fn write_last_body(
     to: &mut TlvWriter,
     kind: OperKind,
@@ -114,6 +116,7 @@ fn write_path(
 }
 
 // The line of a PATH-DATA at a level, and what stands below it.
+#[inline(always)]
 #[cycle(write)]
 fn write_path_line(
     to: &mut TlvWriter,
@@ -131,6 +134,7 @@ fn write_path_line(
 }
 
 // The body at a level whose first line says this, and so many levels of PATH-DATA in each that it holds.
+#[inline(always)]
 #[cycle(write)]
 fn write_headed_body(
     to: &mut TlvWriter,
@@ -151,6 +155,7 @@ fn write_headed_body(
 }
 
 // The body at a level of a PATH-DATA, inside of which PATH-DATA may stand, and so many levels of others in each.
+#[inline(always)]
 #[cycle(write)]
 fn write_open_body(
     to: &mut TlvWriter,
@@ -171,6 +176,7 @@ fn write_open_body(
 }
 
 // The body at a level of a PATH-DATA, inside of which so many levels of others may stand.
+#[inline(always)]
 #[cycle(write)]
 fn write_body(
     to: &mut TlvWriter,

@@ -21,7 +21,7 @@ use std::alloc::Global;
 use std::mem;
 
 /// Plays the script that the input means, writes the report on what it comes to, and flushes it. Where the input means no script, or a step
-/// can't be made, the line of that is written alone.
+/// can't be made, the line of that is written alone. The memory of the world is not given back: the program ends behind it.
 pub fn world<S: Source, K: Sink>(alloc: Global, input: &mut S, out: &mut K) -> Result<PlayEnd, Stop>
     ensures ends { PlayEnds most_bytes (Rose (S.faults input.old) (S.faults input.new)) result (S.left input.old) (S.left input.new) (K.written out.old) (K.written out.new) }
     ensures flushed { FlushedAt result (K.written out.new) (K.flushed out.old) (K.flushed out.new) }

@@ -16,7 +16,6 @@ use Rattle.fc_path.specs.declared.oper.Select.{Select}
 use Rattle.fc_path.specs.declared.select_heads.OperHead.{OperHead}
 use Rattle.fc_path.specs.declared.select_heads.SelectHead.{SelectHead}
 use Rattle.fc_path.specs.declared.fault.PathFault.{PathFault}
-use Rattle.fc_path.specs.declared.fault.PathFault.TheVariants as faults
 use Rattle.fc_path.proofs.Opening.{oper_is, select_is}
 use Rattle.fc_path.proofs.Steps.{SoFar, loop_goes, loop_fails, loop_end, fails_bind, took}
 use Rattle.fc_msg.specs.Bodies.{holding}
@@ -70,14 +69,6 @@ module _ {X : Type 0} (one : TlvItem → Result X PathFault) (text : X → List 
   pub stops : (items : List TlvItem) (fault : Option WireFault) (t : TlvItem) (rest : Tiling TlvItem) (old now : List ℕ) (all : Result (List X) PathFault) (e : PathFault)
       → Appended items fault old now all → Some (Ok t) ≡ next_of items fault → rest ≡ rest_of items fault → Fails e (one t) → Fails e all
   stops items fault t rest old now all e a n r f = loop_fails one items fault t rest a.front all e a.so_far n r f
-
-  broken : (items : List TlvItem) (fault : Option WireFault) (front : List X) (all : Result (List X) PathFault) (w : WireFault) → SoFar one items fault front all → Some (Err w) ≡ next_of items fault → all ≡ Err (faults.Wire w)
-  broken [] None front all w h n = cc
-  broken [] (Some f) front all w h n = cc
-  broken (t ∷ ts) fault front all w h n = cc
-
-  pub breaks : (items : List TlvItem) (fault : Option WireFault) (old now : List ℕ) (all : Result (List X) PathFault) (w : WireFault) → Appended items fault old now all → Some (Err w) ≡ next_of items fault → all ≡ Err (faults.Wire w)
-  breaks items fault old now all w a n = broken items fault a.front all w a.so_far n
 
   pub ends : (items : List TlvItem) (fault : Option WireFault) (old now : List ℕ) (all : Result (List X) PathFault) → Appended items fault old now all → None ≡ next_of items fault → shown all (flat_map text) old ≡ Ok now
   ends items fault old now all a n = ap (λ r. shown r (flat_map text) old) (loop_end one items fault a.front all a.so_far n) ∙ ap Ok (sym a.text_is)

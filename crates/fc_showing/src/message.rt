@@ -1,5 +1,5 @@
 // Messages to text.
-ghost use Rattle.std.specs.Prelude.{◌≡◌, ◌++◌, ◌+◌, Some, OnOk, OnErr, IfOk};
+ghost use Rattle.std.specs.Prelude.{◌≡◌, ◌++◌, ◌+◌, Some, codes, OnOk, OnErr, IfOk};
 ghost use Rattle.std.specs.List.{flat_map};
 ghost use Rattle.fc_showing.specs.Appending.{Keeps};
 ghost use Rattle.fc_text.specs.Text.{body_text, code_text, content_text, fields_text, full_text, head_text, id_text, ilv_text, indent, key_text, message_text, number_text, oper_line, oper_text, path_line, path_text, response_text, select_line, select_text, selects_text, sparse_text};
@@ -205,9 +205,9 @@ pub fn push_line(into: &mut Vec<u8>, name: &[u8]) -> Result<(), Memory>
     push(into, b'\n')
 }
 
-/// Two spaces for each level. The levels that are met most are appended at once.
+// Two spaces for each level. The levels that are met most are appended at once.
 #[inline(always)]
-pub fn push_indent(into: &mut Vec<u8>, level: usize) -> Result<(), Memory>
+fn push_indent(into: &mut Vec<u8>, level: usize) -> Result<(), Memory>
     ensures text { OnOk result (into.new.items ≡ into.old.items ++ indent level) }
     ensures kept { Keeps into.old.items into.new.items }
 {
@@ -267,9 +267,9 @@ fn push_paths(into: &mut Vec<u8>, level: usize, paths: &[PathData]) -> Result<()
     Ok(())
 }
 
-/// The lines of a PATH-DATA at a level.
+// The lines of a PATH-DATA at a level.
 #[cycle(show)]
-pub fn push_path(into: &mut Vec<u8>, level: usize, path: &PathData) -> Result<(), Memory>
+fn push_path(into: &mut Vec<u8>, level: usize, path: &PathData) -> Result<(), Memory>
     ensures text { OnOk result (into.new.items ≡ into.old.items ++ path_text path.now level) }
     ensures kept { Keeps into.old.items into.new.items }
 {
@@ -292,9 +292,22 @@ fn push_body(into: &mut Vec<u8>, level: usize, body: &Body) -> Result<(), Memory
     }
 }
 
-/// The line of a PATH-DATA.
+/// The first word of the line of a PATH-DATA. That at the third level, which is met most, is appended at once.
+#[inline(always)]
+pub fn push_path_word(into: &mut Vec<u8>, level: usize) -> Result<(), Memory>
+    ensures text { OnOk result (into.new.items ≡ into.old.items ++ (indent level ++ codes "path")) }
+    ensures kept { Keeps into.old.items into.new.items }
+{
+    if level == 3 {
+        return extend(into, b"      path");
+    }
+    push_indent(into, level)?;
+    extend(into, b"path")
+}
+
+// The line of a PATH-DATA.
 #[tactic(auto, unfolding(fc_text::specs::Text::path_line))]
-pub fn push_path_line(
+fn push_path_line(
     into: &mut Vec<u8>,
     level: usize,
     ids: &[u32],
@@ -303,8 +316,7 @@ pub fn push_path_line(
     ensures text { OnOk result (into.new.items ≡ into.old.items ++ path_line level ids.now key.now) }
     ensures kept { Keeps into.old.items into.new.items }
 {
-    push_indent(into, level)?;
-    extend(into, b"path")?;
+    push_path_word(into, level)?;
     push_ids(into, ids)?;
     push_key(into, key)?;
     push(into, b'\n')
@@ -343,9 +355,9 @@ pub fn push_key_words(into: &mut Vec<u8>, ident: u32, value: &[u8]) -> Result<()
     push_word(into, value)
 }
 
-/// The line of a whole value.
+// The line of a whole value.
 #[tactic(auto, unfolding(fc_text::specs::Text::full_text))]
-pub fn push_full(into: &mut Vec<u8>, level: usize, value: &[u8]) -> Result<(), Memory>
+fn push_full(into: &mut Vec<u8>, level: usize, value: &[u8]) -> Result<(), Memory>
     ensures text { OnOk result (into.new.items ≡ into.old.items ++ full_text level value.now) }
     ensures kept { Keeps into.old.items into.new.items }
 {
@@ -394,9 +406,9 @@ fn push_eight(into: &mut Vec<u8>, value: &[u8]) -> Result<(), Memory>
     push_full(into, 4, value)
 }
 
-/// The line of a whole value at the fourth level. That of four bytes, which is met most, is appended at once.
+// The line of a whole value at the fourth level. That of four bytes, which is met most, is appended at once.
 #[inline(always)]
-pub fn push_value(into: &mut Vec<u8>, value: &[u8]) -> Result<(), Memory>
+fn push_value(into: &mut Vec<u8>, value: &[u8]) -> Result<(), Memory>
     ensures text { OnOk result (into.new.items ≡ into.old.items ++ full_text 4 value.now) }
     ensures kept { Keeps into.old.items into.new.items }
 {
@@ -420,13 +432,24 @@ pub fn push_whole(into: &mut Vec<u8>, level: usize, value: &[u8]) -> Result<(), 
     push_full(into, level, value)
 }
 
+/// The line above the ILVs of a SPARSEDATA. That at the fourth level, which is met most, is appended at once.
+pub fn push_sparse_line(into: &mut Vec<u8>, level: usize) -> Result<(), Memory>
+    ensures text { OnOk result (into.new.items ≡ into.old.items ++ (indent level ++ codes "sparse\n")) }
+    ensures kept { Keeps into.old.items into.new.items }
+{
+    if level == 4 {
+        return extend(into, b"        sparse\n");
+    }
+    push_indent(into, level)?;
+    extend(into, b"sparse\n")
+}
+
 #[tactic(auto, unfolding(fc_text::specs::Text::sparse_text))]
 fn push_sparse(into: &mut Vec<u8>, level: usize, ilvs: &[Ilv]) -> Result<(), Memory>
     ensures text { OnOk result (into.new.items ≡ into.old.items ++ sparse_text level ilvs.now) }
     ensures kept { Keeps into.old.items into.new.items }
 {
-    push_indent(into, level)?;
-    extend(into, b"sparse\n")?;
+    push_sparse_line(into, level)?;
     let level = below(level)?;
     push_ilvs(into, level, ilvs)
 }

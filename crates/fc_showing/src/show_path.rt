@@ -1,15 +1,17 @@
 // Reads PATH-DATA head by head and appends their lines as they are read, which takes no memory but that of the text.
-ghost use Rattle.std.specs.Prelude.{◌≡◌, ◌++◌, Some, codes, OnOk};
+ghost use Rattle.std.specs.Prelude.{◌≡◌, ◌++◌, Some, OnOk};
 ghost use Rattle.std.specs.List.{flat_map};
 ghost use Rattle.fc_path.specs.BodyHeads.{body_held, leaf_held};
 ghost use Rattle.fc_path.specs.Stray.{beside as is_beside};
 ghost use Rattle.fc_path.specs.Reading.{body_in, each_in, nested_in, own, path_at, path_or, sparse_in};
-ghost use Rattle.fc_text.specs.Text.{body_text, id_text, ilv_text, indent, key_text, path_line, path_text, sparse_text};
+ghost use Rattle.fc_text.specs.Text.{body_text, id_text, ilv_text, key_text, path_line, path_text, sparse_text};
 ghost use Rattle.fc_showing.specs.Appending.{Keeps, Shows};
 
-use crate::append::{extend, push};
+use crate::append::push;
 use crate::decimal::push_id;
-use crate::message::{below, push_code, push_indent, push_key_words, push_part, push_whole};
+use crate::message::{
+    below, push_code, push_key_words, push_part, push_path_word, push_sparse_line, push_whole,
+};
 use fc_base::Memory;
 use fc_path::{
     BodyRef, Ids, KeyRef, LeafRef, OperKind, PathFault, PathHead, must_be_nested, no_more_bodies,
@@ -46,19 +48,6 @@ fn push_key_of(into: &mut Vec<u8>, key: &KeyRef) -> Result<(), Memory>
     ensures kept { Keeps into.old.items into.new.items }
 {
     push_key_words(into, key.ident, key.value)
-}
-
-// The first word of the line of a PATH-DATA. That at the third level, which is met most, is appended at once.
-#[inline(always)]
-fn push_path_word(into: &mut Vec<u8>, level: usize) -> Result<(), Memory>
-    ensures text { OnOk result (into.new.items ≡ into.old.items ++ (indent level ++ codes "path")) }
-    ensures kept { Keeps into.old.items into.new.items }
-{
-    if level == 3 {
-        return extend(into, b"      path");
-    }
-    push_indent(into, level)?;
-    extend(into, b"path")
 }
 
 // The line of a PATH-DATA.
@@ -100,18 +89,6 @@ fn show_ilvs(into: &mut Vec<u8>, level: usize, mut ilvs: Ilvs) -> Result<(), Pat
         }
     }
     Ok(())
-}
-
-// The line above the ILVs of a SPARSEDATA. That at the fourth level, which is met most, is appended at once.
-fn push_sparse_line(into: &mut Vec<u8>, level: usize) -> Result<(), Memory>
-    ensures text { OnOk result (into.new.items ≡ into.old.items ++ (indent level ++ codes "sparse\n")) }
-    ensures kept { Keeps into.old.items into.new.items }
-{
-    if level == 4 {
-        return extend(into, b"        sparse\n");
-    }
-    push_indent(into, level)?;
-    extend(into, b"sparse\n")
 }
 
 // A SPARSEDATA.

@@ -12,7 +12,7 @@ use Rattle.fc_path.specs.declared.oper.OperKind.TheVariants as kinds
 use Rattle.fc_path.specs.declared.oper.Oper.{Oper}
 use Rattle.fc_path.specs.declared.oper.Oper.TheVariants as oper
 use Rattle.fc_path.specs.declared.oper.Select.{Select}
-use Rattle.fc_msg.specs.Messages.{IsProper, ProperMsgBody, kind_of, message_fits}
+use Rattle.fc_msg.specs.Messages.{IsProper, ProperMsgBody, message_fits}
 use Rattle.fc_msg.specs.Reading.{flags_in}
 use Rattle.fc_msg.specs.declared.message.Message.{Message}
 use Rattle.fc_msg.specs.declared.message.MsgBody.{MsgBody}
@@ -278,21 +278,6 @@ types =
 pub types_in_table : (text : List ℕ) → message_named text ≡ first_in types text
 unfolding message_named
 types_in_table text = refl
-
-type_name : (b : MsgBody) → name_in types (kind_of b) ≡ body_name b
-type_name (Setup ss) = refl
-type_name (SetupResponse n) = refl
-type_name (Teardown n) = refl
-type_name (Config ss) = refl
-type_name (ConfigResponse ss) = refl
-type_name (Query ss) = refl
-type_name (QueryResponse ss) = refl
-type_name (Event ss) = refl
-type_name Heartbeat = refl
-
-pub body_named : (text : List ℕ) (b : MsgBody) → message_named text ≡ Some (kind_of b) → text ≡ body_name b
-body_named text b e =
-    table_sound (λ t k. t ≡ name_in types k) types text (kind_of b) (refl, (refl, (refl, (refl, (refl, (refl, (refl, (refl, (refl, tt))))))))) (sym (types_in_table text) ∙ e) ∙ type_name b
 
 pub content_sound : (text : List ℕ) (kind : ℕ) → message_named text ≡ Some kind → Reads text kind
 content_sound text kind e =

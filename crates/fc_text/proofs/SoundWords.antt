@@ -121,10 +121,6 @@ placed_texts column (w ∷ ws) = ap (λ l. w ∷ l) (placed_texts (column + leng
 twice : (level : ℕ) → 2 * suc level ≡ suc (suc (2 * level))
 twice level = omega arith
 
-space_choice : (t : Bool) (b n : ℕ) → (t ≡ true → b ≡ 32) → cond t (suc n) 0 ≡ suc n → b ≡ 32
-space_choice true b n is e = is refl
-space_choice false b n is e = cc
-
 -- the two first bytes of a line at a level that is not the first are spaces
 pub spaces_sound : (level : ℕ) (bytes : List ℕ) → spaces_before bytes ≡ 2 * level → bytes ≡ indent level ++ drop (2 * level) bytes
 spaces_sound zero bytes h = refl
@@ -178,9 +174,6 @@ and_lines level ws ls left mid rest v (bytes, is, e) h (front, more, each) = (by
 
 pub same_rest : (ls : List Line) (left rest other : LinesLeft) → rest ≡ other → Found ls left rest → Found ls left other
 same_rest ls left rest other e h = subst (Found ls left) e h
-
-pub same_lines : (ls ms : List Line) (left rest : LinesLeft) → ls ≡ ms → Found ls left rest → Found ms left rest
-same_lines ls ms left rest e h = subst (λ l. Found l left rest) e h
 
 -- a key, and the IDs before it
 pub key_sound : (v : WordsLeft) (key : Key) → key_in v ≡ Ok key → AreEach SpellsWord (number key.ident ∷ octets key.value ∷ []) (texts v)

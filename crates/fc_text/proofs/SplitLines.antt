@@ -117,13 +117,6 @@ lines_ended : (ls : List (List ℕ)) → AllByRecursion IsLine ls → lines_of (
 lines_ended [] all = refl
 lines_ended (l ∷ ls) all = ap lines_of (append_assoc l (10 ∷ []) (flat_map ended ls)) ∙ lines_next l (flat_map ended ls) all.0.plain ∙ ap (λ m. l ∷ m) (lines_ended ls all.1)
 
--- lines in front of others
-pub lines_front : (ls : List (List ℕ)) (rest : List ℕ) → AllByRecursion IsLine ls → lines_of (flat_map ended ls ++ rest) ≡ ls ++ lines_of rest
-lines_front [] rest all = refl
-lines_front (l ∷ ls) rest all =
-    ap lines_of (append_assoc (l ++ 10 ∷ []) (flat_map ended ls) rest ∙ append_assoc l (10 ∷ []) (flat_map ended ls ++ rest)) ∙ lines_next l (flat_map ended ls ++ rest) all.0.plain
-    ∙ ap (λ m. l ∷ m) (lines_front ls rest all.1)
-
 -- the same without the last line feed
 abbrev unended : List ℕ → List (List ℕ) → List ℕ
 unended l [] = l

@@ -8,6 +8,7 @@ mod read_select;
 mod reading;
 
 pub use body::read_body;
+pub use fc_lines::TextFault;
 pub use laws::{
     decoded_text_is_read, first_misfit_is_where_text_is_refused, shown_text_is_read,
     shown_text_is_spelled, text_is_its_messages, text_is_its_selects,

@@ -7,6 +7,7 @@ pub mod Counting
 pub mod Going
 pub mod Growing
 pub mod Places
+pub mod NamePlaces
 pub mod Planning
 pub mod Playing
 pub mod Ruling

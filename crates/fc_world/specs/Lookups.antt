@@ -1,8 +1,10 @@
 -- What of a world, or of its script, has a name. This profile's own.
-use Rattle.std.specs.Prelude.{ℕ, zero, suc, ◌==◌, Bool, List, [], ◌∷◌, map, slice_get, Option, Some, None, option_map, is_some, if◌then◌else◌}
+use Rattle.std.specs.Prelude.{◌≡◌, ℕ, zero, suc, ◌==◌, Bool, List, [], ◌∷◌, map, slice_get, Option, Some, None, option_map, is_some, if◌then◌else◌}
+use Rattle.std.specs.FinMap.{get}
 use Rattle.std.specs.Str.{bytes_eq}
 use Rattle.fc_documents.specs.declared.transaction.PlanTxn.{PlanTxn}
 use Rattle.fc_element.specs.ElementState.{ElementState}
+use Rattle.fc_keys.specs.Keys.{KeyMap}
 use Rattle.fc_path.specs.declared.oper.Select.{Select}
 use Rattle.fc_world.specs.Worlds.{Ruling, Standing, number_of}
 use Rattle.fc_world.specs.declared.sent.Parcel.{Parcel}
@@ -84,6 +86,13 @@ is_running c ss = is_some (ruling_in c ss)
 abbrev pub transaction_in : List ℕ → List PlanTxn → Option PlanTxn
 transaction_in name [] = None
 transaction_in name (t ∷ ts) = if bytes_eq name t.name then Some t else transaction_in name ts
+
+abbrev pub is_named : List ℕ → PlanTxn → Bool
+is_named name t = bytes_eq name t.name
+
+-- for each name the place of the first transaction that has it
+abbrev pub IsIndex : KeyMap → List PlanTxn → Type 0
+IsIndex names ts = (name : List ℕ) → get names name ≡ place_in (is_named name) ts
 
 -- the one change of a transaction that has exactly one in all, with its element
 abbrev pub lone_change : ℕ → List (List Select) → Option (ℕ × List Select)

@@ -20,6 +20,7 @@ use crate::stage::Stage;
 use fc_base::{Duplicate, FeId, Memory, TxnId};
 use fc_documents::PlanTxn;
 use fc_element::ElIn;
+use fc_keys::KeyIndex;
 use fc_master::Change;
 use fc_steps::Step;
 use std::alloc::Global;
@@ -117,8 +118,9 @@ impl Stage {
     }
 
     /// Why the step can't be made.
-    pub fn fault_of(&self, setting: &Setting, step: &Step) -> Option<WorldFault>
-        requires { IsSound self.now }
+    pub fn fault_of(&self, setting: &Setting, names: &KeyIndex, step: &Step) -> Option<WorldFault>
+        requires sound { IsSound self.now }
+        requires index { lookups.IsIndex names.now.0 setting.now.transactions }
         ensures { result ≡ spec.fault_of setting.now.transactions (state_of self.now) step.now }
     {
         let transactions = setting.transactions.as_slice();
@@ -130,12 +132,15 @@ impl Stage {
             Step::Stop(number) => self.call_fault(true, *number),
             Step::Begin(number, name) => {
                 self.call_fault(
-                    transaction_in(name.as_str(), transactions).is_some(),
+                    transaction_in(name.as_str(), names, transactions).is_some(),
                     *number,
                 )
             }
             Step::Plain(number, name) => {
-                self.call_fault(plain_in(name.as_str(), transactions).is_some(), *number)
+                self.call_fault(
+                    plain_in(name.as_str(), names, transactions).is_some(),
+                    *number,
+                )
             }
             Step::GiveUp(number, _) => self.call_fault(true, *number),
             Step::Resend(number, id) => self.call_fault(self.has_element(*id), *number),
@@ -291,10 +296,12 @@ impl Stage {
     fn begin(
         &mut self,
         setting: &Setting,
+        names: &KeyIndex,
         place: usize,
         number: u8,
         name: &str,
     ) -> Result<Option<Refused>, Memory>
+        requires index { lookups.IsIndex names.now.0 setting.now.transactions }
         requires sound { IsSound self.old }
         requires clear { IsClearSetting setting.now }
         ensures refused { IfOk result (λ refused. Tells RefusesBegin refused (spec.begin_refused number (lookups.transaction_in name.now setting.now.transactions) (state_of self.old))) }
@@ -302,7 +309,7 @@ impl Stage {
         ensures sound { OnOk result (IsSound self.new) }
         ensures err { OnErr result (IsAsWas self.new self.old) }
     {
-        let Some(transaction) = transaction_in(name, setting.transactions.as_slice()) else {
+        let Some(transaction) = transaction_in(name, names, setting.transactions.as_slice()) else {
             return Ok(None);
         };
         self.begin_all(place, number, transaction)
@@ -312,10 +319,12 @@ impl Stage {
     fn change(
         &mut self,
         setting: &Setting,
+        names: &KeyIndex,
         place: usize,
         number: u8,
         name: &str,
     ) -> Result<Option<Refused>, Memory>
+        requires index { lookups.IsIndex names.now.0 setting.now.transactions }
         requires sound { IsSound self.old }
         requires clear { IsClearSetting setting.now }
         ensures refused { IfOk result (λ refused. Tells RefusesBegin refused (spec.plain_refused number (lookups.plain_in name.now setting.now.transactions) (state_of self.old))) }
@@ -323,7 +332,7 @@ impl Stage {
         ensures sound { OnOk result (IsSound self.new) }
         ensures err { OnErr result (IsAsWas self.new self.old) }
     {
-        let Some(lone) = plain_in(name, setting.transactions.as_slice()) else {
+        let Some(lone) = plain_in(name, names, setting.transactions.as_slice()) else {
             return Ok(None);
         };
         self.change_one(place, number, lone.0, lone.1)
@@ -335,9 +344,11 @@ impl Stage {
         &mut self,
         alloc: Global,
         setting: &Setting,
+        names: &KeyIndex,
         place: usize,
         step: &Step,
     ) -> Result<Option<Refused>, Memory>
+        requires index { lookups.IsIndex names.now.0 setting.now.transactions }
         requires sound { IsSound self.old }
         requires clear { IsClearSetting setting.now }
         requires apart { are_apart (lookups.ids_of self.old.nodes.items) ≡ true }
@@ -353,8 +364,8 @@ impl Stage {
             Step::Moment(id, moment) => self.input(*id, ElIn::Moment(*moment)),
             Step::Start(number, round) => self.life(alloc, *number, *round),
             Step::Stop(number) => self.halt(*number),
-            Step::Begin(number, name) => self.begin(setting, place, *number, name.as_str()),
-            Step::Plain(number, name) => self.change(setting, place, *number, name.as_str()),
+            Step::Begin(number, name) => self.begin(setting, names, place, *number, name.as_str()),
+            Step::Plain(number, name) => self.change(setting, names, place, *number, name.as_str()),
             Step::GiveUp(number, txn) => self.give_up(place, *number, *txn),
             Step::Resend(number, id) => self.resend(place, *number, *id),
             Step::Forget(number) => self.forget(place, *number),

@@ -1,7 +1,7 @@
 // A whole network element.
 ghost use Rattle.std.specs.Prelude.{◌≡◌, ◌≢◌, ◌++◌, ◌∷◌, [], ℕ, Some, None, IfOk, IfErr, OnOk, OnErr, option_map};
 ghost use Rattle.std.specs.Option.{option_copied};
-ghost use Rattle.fc_world.specs.Lookups.{element_in, parcel_in, ruling_in};
+ghost use Rattle.fc_world.specs.Lookups.{IsIndex, element_in, parcel_in, ruling_in};
 ghost use Rattle.fc_world.specs.Played.{AreMade, begins_with, report_of, setting_of, world_after, world_of};
 ghost use Rattle.fc_world.specs.Reports.{sent_count};
 ghost use Rattle.fc_world.specs.Settings.{IsNetwork};
@@ -13,6 +13,7 @@ ghost use Rattle.fc_world.specs.declared.faults.WorldFault.TheVariants as fault;
 
 use crate::controllers::{controller_of, first_controllers};
 use crate::faults::{Refused, WorldFault};
+use crate::naming::index_of;
 use crate::nodes::{element_of, first_nodes};
 use crate::reporting::put_report;
 use crate::sent::{count, message_numbered};
@@ -21,6 +22,7 @@ use crate::stage::Stage;
 use crate::trailing::trail_of;
 use fc_base::{FeId, Memory};
 use fc_element::Element;
+use fc_keys::KeyIndex;
 use fc_master::Master;
 use fc_msg::Message;
 use fc_scripts::Script;
@@ -33,6 +35,7 @@ use std::marker::Model;
 #[derive(Drop)]
 pub struct World {
     setting: Setting,
+    names: KeyIndex,
     done: Vec<(usize, Step)>,
     stage: Stage,
     alloc: Global,
@@ -58,11 +61,13 @@ fn first_stage(alloc: Global, setting: &Setting) -> Result<Stage, Memory>
 fn advance(
     alloc: Global,
     setting: &Setting,
+    names: &KeyIndex,
     done: &mut Vec<(usize, Step)>,
     stage: &mut Stage,
     place: usize,
     step: Step,
 ) -> Result<Option<Refused>, Memory>
+    requires index { IsIndex names.now.0 setting.now.transactions }
     requires state { state_of stage.old ≡ world_after setting.now done.old.items }
     requires sound { IsSound stage.old }
     requires network { IsNetwork setting.now }
@@ -77,7 +82,7 @@ fn advance(
     ensures made { AreMade setting.now.transactions (first_world setting.now) done.new.items }
 {
     done.reserve(1)?;
-    let refused = stage.take_step(alloc, setting, place, &step)?;
+    let refused = stage.take_step(alloc, setting, names, place, &step)?;
     done.push_reserved((place, step));
     Ok(refused)
 }
@@ -86,11 +91,13 @@ fn advance(
 fn make(
     alloc: Global,
     setting: &Setting,
+    names: &KeyIndex,
     done: &mut Vec<(usize, Step)>,
     stage: &mut Stage,
     place: usize,
     step: Step,
 ) -> Result<Option<Refused>, WorldFault>
+    requires index { IsIndex names.now.0 setting.now.transactions }
     requires state { state_of stage.old ≡ world_after setting.now done.old.items }
     requires sound { IsSound stage.old }
     requires network { IsNetwork setting.now }
@@ -105,10 +112,10 @@ fn make(
     ensures sound { IsSound stage.new }
     ensures made { AreMade setting.now.transactions (first_world setting.now) done.new.items }
 {
-    if let Some(fault) = stage.fault_of(setting, &step) {
+    if let Some(fault) = stage.fault_of(setting, names, &step) {
         return Err(fault);
     }
-    match advance(alloc, setting, done, stage, place, step) {
+    match advance(alloc, setting, names, done, stage, place, step) {
         Ok(refused) => Ok(refused),
         Err(_) => Err(WorldFault::Memory),
     }
@@ -118,6 +125,7 @@ impl Model for World {
     ghost use Rattle.std.specs.Prelude.{◌≡◌};
     ghost use Rattle.std.specs.Coded.{codes};
     ghost use Rattle.fc_steps.specs.contracts.step.Step as step_contracts;
+    ghost use Rattle.fc_world.specs.Lookups.{IsIndex};
     ghost use Rattle.fc_world.specs.Played.{AreMade, Played, world_after};
     ghost use Rattle.fc_world.specs.Settings.{IsNetwork};
     ghost use Rattle.fc_world.specs.Stages.{IsSound, state_of};
@@ -130,7 +138,7 @@ impl Model for World {
 
     ghost view = { λ w. record { setting = w.setting; done = w.done.items } };
 
-    ghost invariant = { λ w. (state_of w.stage ≡ world_after w.setting w.done.items) × IsSound w.stage × IsNetwork w.setting × AreMade w.setting.transactions (first_world w.setting) w.done.items };
+    ghost invariant = { λ w. (state_of w.stage ≡ world_after w.setting w.done.items) × IsSound w.stage × IsNetwork w.setting × AreMade w.setting.transactions (first_world w.setting) w.done.items × IsIndex w.names.0 w.setting.transactions };
 }
 
 impl World {
@@ -139,9 +147,11 @@ impl World {
         ensures { IfOk result (λ w. w ≡ begins_with (setting_of script.now)) }
     {
         let setting = setting_of(alloc, script)?;
+        let names = index_of(alloc, setting.transactions.as_slice())?;
         let stage = first_stage(alloc, &setting)?;
         Ok(World {
             setting,
+            names,
             done: Vec::new(alloc),
             stage,
             alloc,
@@ -170,6 +180,7 @@ impl World {
         make(
             self.alloc,
             &self.setting,
+            &self.names,
             &mut self.done,
             &mut self.stage,
             place,
@@ -220,7 +231,7 @@ impl World {
     }
 
     /// A number that all messages make, in their order: from 0 on, each byte of their canonical forms is added to 31 times what stands,
-    /// modulo 4,294,967,296.
+    /// modulo 4,294,967,296. An `Err` is want of memory.
     pub fn trail(&self) -> Result<u32, Memory>
         ensures { IfOk result (λ trail. trail ≡ trail_of (world_of self.now).sent) }
     {

@@ -1,5 +1,5 @@
 use Rattle.std.proofs.Common.{Bool, length}
-use Rattle.fc_lines.proofs.HexWords.{Pairs}
+use Rattle.fc_lines.specs.WordValues.{Pairs}
 use Rattle.fc_lines.proofs.hex_word.are_pairs.Given as goal
 
 abbrev pub invariant-pairs : goal.invariant-pairs

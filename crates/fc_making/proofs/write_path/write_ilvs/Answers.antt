@@ -1,8 +1,9 @@
 use Rattle.std.proofs.Common.{sym, ◌∙◌, arith}
+use Rattle.std.proofs.lemmas.Result.{err_from_is_err_and}
 use Rattle.fc_path.specs.Canon.{ilv_written}
 use Rattle.fc_lines.specs.LineReading.{ilv_at}
 use Rattle.fc_text.specs.TextReading.{many_at}
-use Rattle.fc_making.proofs.WrittenParts.{none_written, one_more}
+use Rattle.fc_making.proofs.WrittenParts.{none_written, one_more, one_refused}
 use Rattle.fc_making.proofs.write_path.write_ilvs.Goals as goal
 
 pub lines-init : goal.lines-init
@@ -14,3 +15,9 @@ lines-preserved c = record {
       (sym c.stands_at.ensures ∙ c.lines-test.true) c.in_ok-write_ilv_line.ensures.less c.in_ok-write_ilv_line.ensures.exact;
   less = omega (arith, c.in_ok-write_ilv_line.ensures.less);
 }
+
+pub returns-in_err-write_ilv_line-clause-exact : goal.returns-in_err-write_ilv_line-clause-exact
+returns-in_err-write_ilv_line-clause-exact c =
+    let p = err_from_is_err_and c.from_residual.result c.from_residual.ensures.1 in
+    rw (p.1, p.2) (one_refused c.args.level (ilv_at c.args.level) ilv_written c.lines.lines (many_at c.args.level (ilv_at c.args.level) c.args.lines.now) c.args.to.now c.lines.to c.in_err-write_ilv_line.field-0.0 c.lines.invariant.going (sym c.stands_at.ensures ∙ c.lines-test.true)
+    c.in_err-write_ilv_line.ensures.exact)

@@ -1,4 +1,5 @@
-use Rattle.std.proofs.Common.{◌+◌, Ok, ap, subst, sym}
+use Rattle.std.proofs.Common.{◌+◌, Err, Ok, ap, refl, subst, sym}
+use Rattle.std.proofs.lemmas.Result.{err_from_is_err_and}
 use Rattle.fc_path.specs.Canon.{Pushed, body_written, sparse_written}
 use Rattle.fc_path.specs.declared.path.Body.TheVariants as body
 use Rattle.fc_path.proofs.InGrammar.{full_is, outcome_is, sparse_is}
@@ -6,8 +7,8 @@ use Rattle.fc_lines.specs.LineReading.{ilv_at, leaf_said}
 use Rattle.fc_lines.specs.declared.said.LeafLine.{LeafLine}
 use Rattle.fc_text.specs.HeadedReading.{leaf_of}
 use Rattle.fc_text.specs.TextReading.{many_at}
-use Rattle.fc_making.specs.Writes.{Writes}
-use Rattle.fc_making.proofs.WrittenParts.{writes_as}
+use Rattle.fc_making.specs.Writes.{Writes, unwritten_by}
+use Rattle.fc_making.proofs.WrittenParts.{writes, writes_as}
 use Rattle.fc_making.proofs.write_path.write_leaf.Goals as goal
 
 pub returns-in_ok-write_full-in-Full-clause-exact : goal.returns-in_ok-write_full-in-Full-clause-exact
@@ -28,3 +29,9 @@ returns-in_ok-write_outcome-in-Outcome-clause-exact c = (
   ap (λ (s : LeafLine). leaf_of c.args.level (leaf_said s) c.args.lines.now) c.in-Outcome.is,
   subst (Pushed (Ok tt) c.args.to.now c.write_outcome.new.to) (sym (outcome_is c.in-Outcome.code)) c.in_ok-write_outcome-in-Outcome.ensures,
 )
+
+pub returns-in_err-write_full-in-Full-clause-exact : goal.returns-in_err-write_full-in-Full-clause-exact
+returns-in_err-write_full-in-Full-clause-exact c =
+    let p = err_from_is_err_and c.from_residual.result c.from_residual.ensures.1 in
+    rw (p.1, p.2) (writes (leaf_of c.args.level (leaf_said c.args.said) c.args.lines.now) c.args.lines.now body_written (body.Full c.in-Full.word) c.args.to.now c.write_full.new.to (Err c.in_err-write_full-in-Full.field-0.0) (Err (unwritten_by c.in_err-write_full-in-Full.field-0.0)) refl
+    (ap (λ (s : LeafLine). leaf_of c.args.level (leaf_said s) c.args.lines.now) c.in-Full.is) (subst (Pushed (Err c.in_err-write_full-in-Full.field-0.0) c.args.to.now c.write_full.new.to) (sym (full_is c.in-Full.word)) c.in_err-write_full-in-Full.ensures))
