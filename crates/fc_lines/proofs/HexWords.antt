@@ -94,20 +94,106 @@ four_of a b c d e f g h v r is =
     four_same : (a b c d k l m n : ℕ) (xs : List ℕ) → a ≡ k → b ≡ l → c ≡ m → d ≡ n → a ∷ b ∷ c ∷ d ∷ xs ≡ k ∷ l ∷ m ∷ n ∷ xs
     four_same a b c d k l m n xs p q r s = cc
 
+-- eight bytes in front of others
+record Long (rest : List ℕ) : Type 0 where
+  a : ℕ
+  b : ℕ
+  c : ℕ
+  d : ℕ
+  e : ℕ
+  f : ℕ
+  g : ℕ
+  h : ℕ
+  others : List ℕ
+  is : rest ≡ a ∷ b ∷ c ∷ d ∷ e ∷ f ∷ g ∷ h ∷ others
+
+long_one : (rest : List ℕ) → 8 ≤ length rest → Long rest
+long_one [] long = absurd (omega (arith, long))
+long_one (a ∷ []) long = absurd (omega (arith, long))
+long_one (a ∷ b ∷ []) long = absurd (omega (arith, long))
+long_one (a ∷ b ∷ c ∷ []) long = absurd (omega (arith, long))
+long_one (a ∷ b ∷ c ∷ d ∷ []) long = absurd (omega (arith, long))
+long_one (a ∷ b ∷ c ∷ d ∷ e ∷ []) long = absurd (omega (arith, long))
+long_one (a ∷ b ∷ c ∷ d ∷ e ∷ f ∷ []) long = absurd (omega (arith, long))
+long_one (a ∷ b ∷ c ∷ d ∷ e ∷ f ∷ g ∷ []) long = absurd (omega (arith, long))
+long_one (a ∷ b ∷ c ∷ d ∷ e ∷ f ∷ g ∷ h ∷ r) long = record { a = a; b = b; c = c; d = d; e = e; f = f; g = g; h = h; others = r; is = refl }
+
 four_in : (digits rest more : List ℕ) (v : ℕ) → 8 ≤ length rest → digits ≡ take 8 rest → more ≡ drop 8 rest → hexadecimal 0 digits ≡ Some v → Four rest more v
-four_in digits [] more v long is behind e = absurd (omega (arith, long))
-four_in digits (a ∷ []) more v long is behind e = absurd (omega (arith, long))
-four_in digits (a ∷ b ∷ []) more v long is behind e = absurd (omega (arith, long))
-four_in digits (a ∷ b ∷ c ∷ []) more v long is behind e = absurd (omega (arith, long))
-four_in digits (a ∷ b ∷ c ∷ d ∷ []) more v long is behind e = absurd (omega (arith, long))
-four_in digits (a ∷ b ∷ c ∷ d ∷ x ∷ []) more v long is behind e = absurd (omega (arith, long))
-four_in digits (a ∷ b ∷ c ∷ d ∷ x ∷ f ∷ []) more v long is behind e = absurd (omega (arith, long))
-four_in digits (a ∷ b ∷ c ∷ d ∷ x ∷ f ∷ g ∷ []) more v long is behind e = absurd (omega (arith, long))
-four_in digits (a ∷ b ∷ c ∷ d ∷ x ∷ f ∷ g ∷ h ∷ r) more v long is behind e =
-    subst (λ m. Four (a ∷ b ∷ c ∷ d ∷ x ∷ f ∷ g ∷ h ∷ r) m v) (sym behind) (four_of a b c d x f g h v r (ap (hexadecimal 0) (sym is) ∙ e))
+four_in digits rest more v long is behind e =
+    let l = long_one rest long in
+    subst (λ m. Four rest m v) (sym (behind ∙ ap (drop 8) l.is))
+    (subst (λ s. Four s l.others v) (sym l.is) (four_of l.a l.b l.c l.d l.e l.f l.g l.h v l.others (ap (hexadecimal 0) (sym (is ∙ ap (take 8) l.is)) ∙ e)))
 
 pub eight_goes : (digits rest more : List ℕ) (v : ℕ) (whole : Bool) → 8 ≤ length rest → digits ≡ take 8 rest → more ≡ drop 8 rest → Some v ≡ hexadecimal 0 digits → Pairs more whole → Pairs rest whole
 eight_goes digits rest more v whole long is behind e h = (four_in digits rest more v long is behind (sym e)).pairs whole h
 
 pub next_eight : (digits rest more : List ℕ) (v : ℕ) → 8 ≤ length rest → digits ≡ take 8 rest → more ≡ drop 8 rest → Some v ≡ hexadecimal 0 digits → paired rest ≡ u32_bytes v ++ paired more
 next_eight digits rest more v long is behind e = (four_in digits rest more v long is behind (sym e)).spelled
+
+-- Where all of a word are pairs
+
+record Two (x y : ℕ) (rest : List ℕ) : Type 0 where
+  value : ℕ
+  is : digits_of 2 (x ∷ y ∷ []) ≡ Some value
+  behind : Pairs rest true
+
+two_in : (x y : ℕ) (rest : List ℕ) → Pairs (x ∷ y ∷ rest) true → Two x y rest
+two_in x y rest p = by (digits_of 2 (x ∷ y ∷ [])) refl p
+  where
+    same_tail : (b : ℕ) (l m : List ℕ) → Some (b ∷ l) ≡ Some (b ∷ m) → l ≡ m
+    same_tail b l m e = cc
+
+    over : (b : ℕ) (o : Option (List ℕ)) → digits_of 2 (x ∷ y ∷ []) ≡ Some b → pairs_of rest ≡ o → given o (λ bs. Some (b ∷ bs)) ≡ Some (b ∷ paired rest) → Two x y rest
+    over b None is pairs e = cc
+    over b (Some bs) is pairs e = record { value = b; is = is; behind = pairs ∙ ap Some (same_tail b bs (paired rest) e) }
+
+    by : (o : Option ℕ) → digits_of 2 (x ∷ y ∷ []) ≡ o → given o (λ b. given (pairs_of rest) (λ bs. Some (b ∷ bs))) ≡ Some (byte_of o ∷ paired rest) → Two x y rest
+    by None is e = cc
+    by (Some b) is e = over b (pairs_of rest) is refl e
+
+pub behind_two : (rest more : List ℕ) → 2 ≤ length rest → more ≡ drop 2 rest → Pairs rest true → Pairs more true
+behind_two [] more two is p = absurd (omega (arith, two))
+behind_two (x ∷ []) more two is p = absurd (omega (arith, two))
+behind_two (x ∷ y ∷ r) more two is p = subst (λ m. Pairs m true) (sym is) (two_in x y r p).behind
+
+-- eight digits in front
+record Eight (digits rest : List ℕ) : Type 0 where
+  value : ℕ
+  is : hexadecimal 0 digits ≡ Some value
+  behind : Pairs rest true
+
+step_in : (x y n : ℕ) (bytes rest : List ℕ) (t : Two x y rest) → hexadecimal n (x ∷ y ∷ bytes) ≡ hexadecimal (n * 256 + t.value) bytes
+step_in x y n bytes rest t = two_step x y n bytes ∙ ap (λ o. given o (λ k. hexadecimal (n * 256 + k) bytes)) t.is
+
+eight_of : (a b c d e f g h : ℕ) (r : List ℕ) → Pairs (a ∷ b ∷ c ∷ d ∷ e ∷ f ∷ g ∷ h ∷ r) true → Eight (a ∷ b ∷ c ∷ d ∷ e ∷ f ∷ g ∷ h ∷ []) r
+eight_of a b c d e f g h r p =
+    let w = two_in a b (c ∷ d ∷ e ∷ f ∷ g ∷ h ∷ r) p in
+    let x = two_in c d (e ∷ f ∷ g ∷ h ∷ r) w.behind in
+    let y = two_in e f (g ∷ h ∷ r) x.behind in
+    let z = two_in g h r y.behind in
+    record {
+      value = (((0 * 256 + w.value) * 256 + x.value) * 256 + y.value) * 256 + z.value;
+      is =
+          step_in a b 0 (c ∷ d ∷ e ∷ f ∷ g ∷ h ∷ []) (c ∷ d ∷ e ∷ f ∷ g ∷ h ∷ r) w
+          ∙ step_in c d (0 * 256 + w.value) (e ∷ f ∷ g ∷ h ∷ []) (e ∷ f ∷ g ∷ h ∷ r) x
+          ∙ step_in e f ((0 * 256 + w.value) * 256 + x.value) (g ∷ h ∷ []) (g ∷ h ∷ r) y
+          ∙ step_in g h (((0 * 256 + w.value) * 256 + x.value) * 256 + y.value) [] r z;
+      behind = z.behind;
+    }
+
+eight_in : (digits rest more : List ℕ) → 8 ≤ length rest → digits ≡ take 8 rest → more ≡ drop 8 rest → Pairs rest true → Eight digits more
+eight_in digits rest more long is behind p =
+    let l = long_one rest long in
+    subst (λ t. Eight t more) (sym (is ∙ ap (take 8) l.is))
+    (subst (λ m. Eight (l.a ∷ l.b ∷ l.c ∷ l.d ∷ l.e ∷ l.f ∷ l.g ∷ l.h ∷ []) m) (sym (behind ∙ ap (drop 8) l.is))
+    (eight_of l.a l.b l.c l.d l.e l.f l.g l.h l.others (subst (λ s. Pairs s true) l.is p)))
+
+pub behind_eight : (digits rest more : List ℕ) → 8 ≤ length rest → digits ≡ take 8 rest → more ≡ drop 8 rest → Pairs rest true → Pairs more true
+behind_eight digits rest more long is behind p = (eight_in digits rest more long is behind p).behind
+
+-- so eight characters that are no digits do not stand there
+pub eight_told : (digits rest more : List ℕ) → 8 ≤ length rest → digits ≡ take 8 rest → more ≡ drop 8 rest → None ≡ hexadecimal 0 digits → Pairs rest true → ⊥
+eight_told digits rest more long is behind none p = let e = eight_in digits rest more long is behind p in never e.value (none ∙ e.is)
+  where
+    never : (n : ℕ) → None ≡ Some n → ⊥
+    never n e = cc

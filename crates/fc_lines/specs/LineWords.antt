@@ -1,6 +1,6 @@
 -- The lines of a text and the words of a line. A line ends at a line feed or at the end of the text, and single spaces part
 -- its words. This profile's own.
-use Rattle.std.specs.Prelude.{◌≡◌, ◌≢◌, ◌⊎◌, ◌<◌, ◌≤◌, ◌^◌, ℕ, zero, suc, get_or, ◌+◌, ◌*◌, ◌==◌, if◌then◌else◌, List, [], ◌∷◌, codes, length, take, drop, Bool, true, false, Option, Some, None, Result, Ok, Err}
+use Rattle.std.specs.Prelude.{◌≡◌, ◌≢◌, ◌⊎◌, ◌<◌, ◌≤◌, ◌^◌, ℕ, zero, suc, ◌+◌, ◌*◌, ◌==◌, if◌then◌else◌, List, [], ◌∷◌, codes, length, take, drop, Bool, true, false, Option, Some, None, Result, Ok, Err}
 use Rattle.std.specs.Str.{bytes_eq}
 use Rattle.fc_base.specs.Answers.{◌>>=◌}
 use Rattle.fc_lines.specs.declared.label.Label.{Label}
@@ -12,10 +12,6 @@ use Rattle.fc_lines.specs.WordValues.{given, decimal_of, decimals, digits_of, oc
 abbrev pub in_front : ℕ → List (List ℕ) → List (List ℕ)
 in_front byte [] = (byte ∷ []) ∷ []
 in_front byte (piece ∷ pieces) = (byte ∷ piece) ∷ pieces
-
--- so many of the first bytes are not this one
-abbrev pub HasNone : ℕ → ℕ → List ℕ → Type 0
-HasNone byte count bytes = (k : ℕ) → k < count → get_or bytes k 0 ≡ byte → ⊥
 
 -- the lines of a text; a line feed at the end begins no further line
 abbrev pub lines_of : List ℕ → List (List ℕ)

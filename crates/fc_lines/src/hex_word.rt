@@ -16,12 +16,14 @@ pub struct HexWord<'a> {
 }
 
 impl<'a> Model for HexWord<'a> {
-    ghost use Rattle.std.specs.Prelude.{List, ℕ};
-    ghost use Rattle.fc_lines.specs.WordValues.{paired};
+    ghost use Rattle.std.specs.Prelude.{List, ℕ, true};
+    ghost use Rattle.fc_lines.specs.WordValues.{Pairs, paired};
 
     ghost Value = { List ℕ };
 
     ghost view = { λ h. paired h.digits.now };
+
+    ghost invariant = { λ h. Pairs h.digits.now true };
 }
 
 // What is left behind as many eights of hexadecimal digits as stand in front.
@@ -110,6 +112,7 @@ impl<'a> HexWord<'a> {
     pub fn next_four(&mut self) -> Option<u32>
         ensures some { IfSome result (λ n. self.old ≡ u32_bytes n ++ self.new) }
         ensures none { IfNone result (self.new ≡ self.old) }
+        ensures fewer { IfNone result (length self.old < 4) }
     {
         match self.digits.split_first_chunk::<8>() {
             Some((digits, rest)) => match eight_digits(digits) {

@@ -1,9 +1,10 @@
 // The lines of a text, each with its indentation.
 ghost use Rattle.std.specs.Prelude.{◌≡◌, ◌≤◌, ◌<◌, ◌+◌, ◌^◌, length, [], OnOk, IfOk};
+ghost use Rattle.std.specs.Result.{IsErrOf};
 ghost use Rattle.fc_lines.specs.TextPlaces.{Gives};
 ghost use Rattle.fc_lines.specs.LineReading.{shut as is_shut};
 ghost use Rattle.fc_lines.specs.LineWords.{ended, none_left, spaces_before as spaces, stands_at as stands, line_at, text_lines, closed as is_closed};
-ghost use Rattle.fc_lines.specs.declared.fault.TextFault.TheVariants.{At};
+ghost use Rattle.fc_lines.specs.declared.fault.TextFault.TheVariants.{At, Memory};
 
 use crate::TextFault;
 use crate::words::Words;
@@ -94,7 +95,8 @@ impl<'a> Lines<'a> {
     /// That no line is left.
     #[tactic(auto, unfolding(crate::specs::LineWords::closed))]
     pub fn closed(&self) -> Result<(), TextFault>
-        ensures { Gives result (is_closed self.now) }
+        ensures exact { Gives result (is_closed self.now) }
+        ensures sure { IsErrOf result Memory → ⊥ }
     {
         if self.is_empty() {
             return Ok(());
@@ -106,7 +108,8 @@ impl<'a> Lines<'a> {
     #[inline(always)]
     #[tactic(auto, unfolding(crate::specs::LineReading::shut))]
     pub fn shut(&self) -> Result<(), TextFault>
-        ensures { Gives result (is_shut self.now) }
+        ensures exact { Gives result (is_shut self.now) }
+        ensures sure { IsErrOf result Memory → ⊥ }
     {
         if self.stands_at(0) {
             return Ok(());
@@ -133,6 +136,7 @@ impl<'a> Lines<'a> {
         requires { level ≤ 20 }
         ensures exact { Gives result (line_at level self.now) }
         ensures less { IfOk result (λ words. length words.1.lines < length self.now.lines) }
+        ensures sure { IsErrOf result Memory → ⊥ }
     {
         if !self.stands_at(level) {
             return Err(self.misplaced());
@@ -146,6 +150,7 @@ impl<'a> Lines<'a> {
     pub(crate) fn close(&mut self, words: Words<'a>) -> Result<(), TextFault>
         ensures exact { Gives result (ended words.entry.0) }
         ensures behind { OnOk result (self.new ≡ words.entry.1) }
+        ensures sure { IsErrOf result Memory → ⊥ }
     {
         words.end()?;
         self.go_on(words);

@@ -1,10 +1,12 @@
 // What each kind of line says, lent without memory: it is checked when its line is read, so that the first word that does not
 // fit is told, and whoever wants a value takes it from what is lent.
 ghost use Rattle.std.specs.Prelude.{◌≡◌, ◌≤◌, ◌<◌, ◌&&◌, not, length, OnOk};
+ghost use Rattle.std.specs.Result.{IsErrOf};
 ghost use Rattle.fc_path.specs.Kinds.{takes_nothing};
 ghost use Rattle.fc_lines.specs.TextPlaces.{Gives, Lends, Reads, ReadsAs};
 ghost use Rattle.fc_lines.specs.LineWords.{stands_at};
 ghost use Rattle.fc_lines.specs.LineReading.{body_head, body_head_at, body_said, code_in, head_at, ilv_at, ilv_of, key_in, key_of, leaf_head, leaf_head_at, leaf_said, lfb_at, name_at, number_at, outcome_at, steps_at, steps_in, steps_said};
+ghost use Rattle.fc_lines.specs.declared.fault.TextFault.TheVariants.{Memory};
 
 use crate::TextFault;
 use crate::hex_word::HexWord;
@@ -75,6 +77,7 @@ pub enum BodyLine<'a> {
 pub fn head_line(lines: &mut Lines) -> Result<Head, TextFault>
     ensures exact { Reads result (head_at lines.old) lines.new }
     ensures less { OnOk result (length lines.new.lines < length lines.old.lines) }
+    ensures sure { IsErrOf result Memory → ⊥ }
 {
     let mut words = lines.open(0)?;
     let kind = words.message()?;
@@ -98,6 +101,7 @@ pub fn head_line(lines: &mut Lines) -> Result<Head, TextFault>
 pub fn number_line(name: &[u8], lines: &mut Lines) -> Result<u32, TextFault>
     ensures exact { Reads result (number_at name.now lines.old) lines.new }
     ensures less { OnOk result (length lines.new.lines < length lines.old.lines) }
+    ensures sure { IsErrOf result Memory → ⊥ }
 {
     let mut words = lines.open(1)?;
     words.exactly(name)?;
@@ -113,6 +117,7 @@ pub fn select_line(level: usize, lines: &mut Lines) -> Result<(u32, u32), TextFa
     requires { level ≤ 20 }
     ensures exact { Reads result (lfb_at level lines.old) lines.new }
     ensures less { OnOk result (length lines.new.lines < length lines.old.lines) }
+    ensures sure { IsErrOf result Memory → ⊥ }
 {
     let mut words = lines.open(level)?;
     words.exactly(b"lfb")?;
@@ -129,6 +134,7 @@ pub fn operation_line(message: u8, level: usize, lines: &mut Lines) -> Result<Op
     requires { level ≤ 20 }
     ensures exact { Reads result (name_at message level lines.old) lines.new }
     ensures less { OnOk result (length lines.new.lines < length lines.old.lines) }
+    ensures sure { IsErrOf result Memory → ⊥ }
 {
     let mut words = lines.open(level)?;
     let operation = words.operation(message)?;
@@ -144,6 +150,7 @@ pub fn ilv_line<'a>(level: usize, lines: &mut Lines<'a>) -> Result<Numbered<'a>,
     requires { level ≤ 20 }
     ensures exact { ReadsAs ilv_of result (ilv_at level lines.old) lines.new }
     ensures less { OnOk result (length lines.new.lines < length lines.old.lines) }
+    ensures sure { IsErrOf result Memory → ⊥ }
 {
     let mut words = lines.open(level)?;
     words.exactly(b"ilv")?;
@@ -158,6 +165,7 @@ pub fn ilv_line<'a>(level: usize, lines: &mut Lines<'a>) -> Result<Numbered<'a>,
 fn read_code<'a>(mut words: Words<'a>, lines: &mut Lines<'a>) -> Result<u8, TextFault>
     ensures exact { Gives result (code_in words.entry.0) }
     ensures behind { OnOk result (lines.new ≡ words.entry.1) }
+    ensures sure { IsErrOf result Memory → ⊥ }
 {
     let code = words.two_digits()?;
     lines.close(words)?;
@@ -171,6 +179,7 @@ pub fn code_line(level: usize, lines: &mut Lines) -> Result<u8, TextFault>
     requires { level ≤ 20 }
     ensures exact { Reads result (outcome_at level lines.old) lines.new }
     ensures less { OnOk result (length lines.new.lines < length lines.old.lines) }
+    ensures sure { IsErrOf result Memory → ⊥ }
 {
     let mut words = lines.open(level)?;
     words.exactly(b"code")?;
@@ -183,6 +192,7 @@ pub fn code_line(level: usize, lines: &mut Lines) -> Result<u8, TextFault>
 fn read_key<'a>(mut words: Words<'a>, lines: &mut Lines<'a>) -> Result<Numbered<'a>, TextFault>
     ensures exact { Lends key_of result (key_in words.entry.0) }
     ensures behind { OnOk result (lines.new ≡ words.entry.1) }
+    ensures sure { IsErrOf result Memory → ⊥ }
 {
     let number = words.decimal()?;
     let bytes = words.octets()?;
@@ -196,6 +206,7 @@ fn read_key<'a>(mut words: Words<'a>, lines: &mut Lines<'a>) -> Result<Numbered<
 fn read_steps<'a>(mut words: Words<'a>, lines: &mut Lines<'a>) -> Result<PathLine<'a>, TextFault>
     ensures exact { Lends steps_said result (steps_in words.entry.0) }
     ensures behind { OnOk result (lines.new ≡ words.entry.1) }
+    ensures sure { IsErrOf result Memory → ⊥ }
 {
     let first = words.again();
     let mut count = 0usize;
@@ -230,6 +241,7 @@ pub fn path_line<'a>(level: usize, lines: &mut Lines<'a>) -> Result<PathLine<'a>
     requires { level ≤ 20 }
     ensures exact { ReadsAs steps_said result (steps_at level lines.old) lines.new }
     ensures less { OnOk result (length lines.new.lines < length lines.old.lines) }
+    ensures sure { IsErrOf result Memory → ⊥ }
 {
     let mut words = lines.open(level)?;
     words.exactly(b"path")?;
@@ -247,6 +259,7 @@ fn read_leaf<'a>(
 ) -> Result<LeafLine<'a>, TextFault>
     ensures exact { ReadsAs leaf_said result (leaf_head kind word.now words.entry.0 words.entry.1) lines.new }
     ensures behind { OnOk result (lines.new ≡ words.entry.1) }
+    ensures sure { IsErrOf result Memory → ⊥ }
 {
     if kind.takes_full() && is(word.text, b"full") {
         let value = words.octets()?;
@@ -276,6 +289,7 @@ pub fn leaf_line<'a>(
     requires { level ≤ 20 }
     ensures exact { ReadsAs leaf_said result (leaf_head_at kind level lines.old) lines.new }
     ensures less { OnOk result (length lines.new.lines < length lines.old.lines) }
+    ensures sure { IsErrOf result Memory → ⊥ }
 {
     let mut words = lines.open(level)?;
     let word = words.word()?;
@@ -302,6 +316,7 @@ fn read_body<'a>(
 ) -> Result<BodyLine<'a>, TextFault>
     ensures exact { ReadsAs body_said result (body_head kind word.now words.entry.0 words.entry.1) lines.new }
     ensures behind { OnOk result (lines.new ≡ words.entry.1) }
+    ensures sure { IsErrOf result Memory → ⊥ }
 {
     if is(word.text, b"path") {
         let said = read_steps(words, lines)?;
@@ -323,6 +338,7 @@ pub fn body_line<'a>(
     requires { level ≤ 20 }
     ensures exact { ReadsAs body_said result (body_head_at kind level lines.old) lines.new }
     ensures less { OnOk result (length lines.new.lines < length lines.old.lines) }
+    ensures sure { IsErrOf result Memory → ⊥ }
 {
     let mut words = lines.open(level)?;
     let word = words.word()?;

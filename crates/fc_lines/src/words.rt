@@ -1,11 +1,12 @@
 // The words of a line, which single spaces part.
 ghost use Rattle.std.specs.Prelude.{◌≡◌, ◌≤◌, ◌<◌, ◌^◌, ◌+◌, ◌++◌, codes, length, take, drop, true, false, Some, None, [], ◌∷◌, Ok, IfSome, IfNone};
 ghost use Rattle.std.specs.Str.{bytes_eq};
+ghost use Rattle.std.specs.Result.{IsErrOf};
 ghost use Rattle.fc_lines.specs.TextPlaces.{Gives, Reads, place};
 ghost use Rattle.fc_lines.specs.WordValues.{given, digits_of};
 ghost use Rattle.fc_lines.specs.LineWords.{QuickNumber, label_bytes, line_in, behind_line, lines_of, lines_left, IsPlain, EndsWord, open_from, words_left, word_in, ended, exactly as this, decimal_in, digits_in, octets_in, labelled_in, labelled_digits, first_word, rest_words};
 ghost use Rattle.fc_lines.specs.LineReading.{operation_in, type_in};
-ghost use Rattle.fc_lines.specs.declared.fault.TextFault.TheVariants.{At};
+ghost use Rattle.fc_lines.specs.declared.fault.TextFault.TheVariants.{At, Memory};
 
 use crate::TextFault;
 use crate::front::decimal_in_front;
@@ -199,6 +200,7 @@ impl<'a> Words<'a> {
         ensures exact { Reads result (word_in self.old.0) self.new.0 }
         ensures line { self.new.0.line ≡ self.old.0.line }
         ensures behind { self.new.1 ≡ self.old.1 }
+        ensures sure { IsErrOf result Memory → ⊥ }
     {
         if !self.more {
             return Err(TextFault::At {
@@ -216,6 +218,7 @@ impl<'a> Words<'a> {
     pub fn exactly(&mut self, name: &[u8]) -> Result<(), TextFault>
         ensures exact { Reads result (this name.now self.old.0) self.new.0 }
         ensures behind { self.new.1 ≡ self.old.1 }
+        ensures sure { IsErrOf result Memory → ⊥ }
     {
         let word = self.word()?;
         if is(word.text, name) {
@@ -229,7 +232,8 @@ impl<'a> Words<'a> {
     #[inline(always)]
     #[tactic(auto, unfolding(crate::specs::LineWords::ended))]
     pub fn end(&self) -> Result<(), TextFault>
-        ensures { Gives result (ended self.now.0) }
+        ensures exact { Gives result (ended self.now.0) }
+        ensures sure { IsErrOf result Memory → ⊥ }
     {
         if self.more {
             return Err(TextFault::At {
@@ -282,6 +286,7 @@ impl<'a> Words<'a> {
     pub fn decimal(&mut self) -> Result<u32, TextFault>
         ensures exact { Reads result (decimal_in self.old.0) self.new.0 }
         ensures behind { self.new.1 ≡ self.old.1 }
+        ensures sure { IsErrOf result Memory → ⊥ }
     {
         if let Some(number) = self.quick_decimal() {
             return Ok(number);
@@ -298,6 +303,7 @@ impl<'a> Words<'a> {
     pub fn two_digits(&mut self) -> Result<u8, TextFault>
         ensures exact { Reads result (digits_in 2 self.old.0) self.new.0 }
         ensures behind { self.new.1 ≡ self.old.1 }
+        ensures sure { IsErrOf result Memory → ⊥ }
     {
         let word = self.word()?;
         match two_digits_of(word.text) {
@@ -311,6 +317,7 @@ impl<'a> Words<'a> {
     pub fn eight_digits(&mut self) -> Result<u32, TextFault>
         ensures exact { Reads result (digits_in 8 self.old.0) self.new.0 }
         ensures behind { self.new.1 ≡ self.old.1 }
+        ensures sure { IsErrOf result Memory → ⊥ }
     {
         let word = self.word()?;
         match eight_digits_of(word.text) {
@@ -357,6 +364,7 @@ impl<'a> Words<'a> {
     pub fn labelled_eight(&mut self, label: Label) -> Result<u32, TextFault>
         ensures exact { Reads result (labelled_in (label_bytes label) 8 self.old.0) self.new.0 }
         ensures behind { self.new.1 ≡ self.old.1 }
+        ensures sure { IsErrOf result Memory → ⊥ }
     {
         if let Some(number) = self.quick_eight(label) {
             return Ok(number);
@@ -374,6 +382,7 @@ impl<'a> Words<'a> {
     pub fn labelled_sixteen(&mut self, label: Label) -> Result<u64, TextFault>
         ensures exact { Reads result (labelled_in (label_bytes label) 16 self.old.0) self.new.0 }
         ensures behind { self.new.1 ≡ self.old.1 }
+        ensures sure { IsErrOf result Memory → ⊥ }
     {
         if let Some(number) = self.quick_sixteen(label) {
             return Ok(number);
@@ -390,6 +399,7 @@ impl<'a> Words<'a> {
     pub fn message(&mut self) -> Result<u8, TextFault>
         ensures exact { Reads result (type_in self.old.0) self.new.0 }
         ensures behind { self.new.1 ≡ self.old.1 }
+        ensures sure { IsErrOf result Memory → ⊥ }
     {
         let word = self.word()?;
         match message_named(word.text) {
@@ -403,6 +413,7 @@ impl<'a> Words<'a> {
     pub fn operation(&mut self, message: u8) -> Result<Operation, TextFault>
         ensures exact { Reads result (operation_in message self.old.0) self.new.0 }
         ensures behind { self.new.1 ≡ self.old.1 }
+        ensures sure { IsErrOf result Memory → ⊥ }
     {
         let word = self.word()?;
         match operation_named(message, word.text) {
@@ -417,6 +428,7 @@ impl<'a> Words<'a> {
     pub fn octets(&mut self) -> Result<HexWord<'a>, TextFault>
         ensures exact { Reads result (octets_in self.old.0) self.new.0 }
         ensures behind { self.new.1 ≡ self.old.1 }
+        ensures sure { IsErrOf result Memory → ⊥ }
     {
         let word = self.word()?;
         match HexWord::of(word.text) {

@@ -7,7 +7,7 @@ use Rattle.fc_base.specs.Ids.{Txn}
 use Rattle.fc_protocol.specs.Collections.{among, or_next}
 use Rattle.fc_protocol.specs.Jobs.{Job as Work, all_settled, answer, answered_by, body_by, decided_job, decision_body, first_need, given_up, is_settled, needs, on_job, settled_at, stuck_at, went_on}
 use Rattle.fc_protocol.specs.Messages.{Body, Claim, Sot, Mot, Eot, Trcomp, Abt, Floor, Malformed, Plain, Ask, Ask_record, Reply, Stamp, same}
-use Rattle.fc_protocol.specs.MasterMachine.{Master as Core, NotReady, Peer, Speaks, Unsettled, Waiting, and_says, busy_at, busy_by, coded, decide_all, due, finish, floor_body, heard, is_open_at, matches, refused_if, reserved, scope_at, sends_all, sends_one, unsettled, unspent}
+use Rattle.fc_protocol.specs.MasterMachine.{Master as Core, NotReady, Peer, Speaks, Unsettled, Waiting, and_says, busy_at, busy_by, coded, decide_all, due, finish, floor_body, heard, is_open_at, matches, own_job, refused_if, reserved, scope_at, sends_all, sends_one, unsettled, unspent}
 use Rattle.fc_protocol.specs.Scopes.{Scope, meets}
 use Rattle.fc_protocol.specs.declared.states.Decision.{Decision}
 use Rattle.fc_protocol.specs.declared.states.Decision.TheVariants.{Abort}
@@ -145,6 +145,13 @@ on_behind e n x f (j ∷ rested) js r l =
     let early = and_second (is_done j) (is_early e n j) (and_first (rests e n j) (list_all (rests e n) rested) r) in
     ap (λ b. cond b (f j) j ∷ on_job x f (rested ++ js)) (other_by e n x j.txn (same x j.txn) refl l early)
     ∙ ap (λ (ts : List Work). j ∷ ts) (on_behind e n x f rested js (and_second (rests e n j) (list_all (rests e n) rested) r) l)
+
+pub own_behind : (e n : ℕ) (x : Txn) (rested js : List Work) → list_all (rests e n) rested ≡ true → (x.epoch == e && nat_lt n x.number) ≡ true → own_job x (rested ++ js) ≡ own_job x js
+own_behind e n x [] js r l = refl
+own_behind e n x (j ∷ rested) js r l =
+    let early = and_second (is_done j) (is_early e n j) (and_first (rests e n j) (list_all (rests e n) rested) r) in
+    ap (λ b. cond (b && j.mine) (Some j) (own_job x (rested ++ js))) (other_by e n x j.txn (same x j.txn) refl l early)
+    ∙ own_behind e n x rested js (and_second (rests e n j) (list_all (rests e n) rested) r) l
 
 either : (e n : ℕ) (x : Txn) (f g : Work → Work) (rested js : List Work) → list_all (rests e n) rested ≡ true → (x.epoch == e && nat_lt n x.number) ≡ true → (good : Bool)
     → cond good (on_job x f (rested ++ js)) (on_job x g (rested ++ js)) ≡ rested ++ cond good (on_job x f js) (on_job x g js)
@@ -362,6 +369,9 @@ busy_open p sc js = sym (busy_behind p sc (jobs_of (take js.rested js.all)) (job
 
 pub reserved_open : (p : ℕ) (js : Jobs) → reserved p (jobs_of (drop js.rested js.all)) ≡ reserved p (jobs_of js.all)
 reserved_open p js = sym (reserved_behind p (jobs_of (take js.rested js.all)) (jobs_of (drop js.rested js.all)) (rested_done js)) ∙ ap (reserved p) (parted js.rested js.all)
+
+pub own_open : (x : Txn) (js : Jobs) → (x.epoch == js.epoch && nat_lt js.passed x.number) ≡ true → own_job x (jobs_of (drop js.rested js.all)) ≡ own_job x (jobs_of js.all)
+own_open x js l = sym (own_behind js.epoch js.passed x (jobs_of (take js.rested js.all)) (jobs_of (drop js.rested js.all)) js.rest l) ∙ ap (own_job x) (parted js.rested js.all)
 
 pub peer_refusal_open : (y : Peer) (p : ℕ) (sc : Scope) (js : Jobs) → peer_refusal y p sc (jobs_of (drop js.rested js.all)) ≡ peer_refusal y p sc (jobs_of js.all)
 peer_refusal_open y p sc js =

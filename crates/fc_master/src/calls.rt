@@ -9,7 +9,6 @@ ghost use Rattle.fc_master.specs.Refusals.{give_up_told, give_up_told_by};
 
 use crate::faults::GiveUpFault;
 use crate::master::Master;
-use crate::refusals::own_job;
 use fc_base::{Duplicate, Epoch, List, Memory, TxnId};
 use fc_jobs::{CeOut, Heard, Job, is_same};
 use fc_protocol::Decision;
@@ -47,7 +46,7 @@ impl Master {
         if let Some(seen) = self.deposed {
             return Some(GiveUpFault::Deposed { seen });
         }
-        match own_job(txn, self.jobs.as_slice()) {
+        match self.jobs.own(txn) {
             None => Some(GiveUpFault::Unknown),
             Some(job) => match job.decision {
                 Some(decision) => Some(GiveUpFault::Decided { decision }),

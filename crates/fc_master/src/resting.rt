@@ -4,11 +4,12 @@ ghost use Rattle.std.specs.List.{list_all};
 ghost use Rattle.fc_asks.specs.Bodies.{body_of};
 ghost use Rattle.fc_jobs.specs.JobViews.{job_of, jobs_of};
 ghost use Rattle.fc_jobs.specs.Seats.{waiting_of};
-ghost use Rattle.fc_protocol.specs.MasterMachine.{Waiting, last_count, reserved};
+ghost use Rattle.fc_protocol.specs.MasterMachine.{Waiting, last_count, own_job as own_job_of, reserved};
 ghost use Rattle.fc_master.specs.Resting as spec;
 ghost use Rattle.fc_master.specs.Resting.{LeavesAlone, rests, with_tail};
 
 use crate::busy::is_settled;
+use crate::refusals::own_job;
 use crate::spending::is_passed;
 use fc_asks::Asks;
 use fc_base::{Epoch, FeId, List, Memory, TxnId};
@@ -17,8 +18,8 @@ use std::alloc::Global;
 use std::mem;
 
 /// The jobs of a life, in order of their begin or discovery. The first ones rest: each of them is decided and done at all its participants,
-/// and so nothing more is sent for them. A response to a later transaction of this life does not look at them; an answer to a query, and a
-/// response to a transaction that was found, look at all.
+/// and so nothing more is sent for them. A response to a later transaction of this life, and a search for its job, do not look at them; an
+/// answer to a query, and what concerns a transaction that was found or one of those, look at all.
 #[derive(Debug, Drop)]
 pub struct Jobs {
     pub(crate) all: List<Job>,
@@ -156,6 +157,16 @@ impl Jobs {
         ensures { result ≡ (txn.epoch == self.now.epoch && nat_lt self.now.passed txn.number) }
     {
         txn.epoch == self.epoch && txn.number > self.passed
+    }
+
+    /// The first job of this transaction that the life has begun itself. Those that rest are passed over where it is later than all of them.
+    pub fn own(&self, txn: TxnId) -> Option<&Job>
+        ensures { option_map (λ j. job_of j.now) result ≡ own_job_of txn (jobs_of self.now.all) }
+    {
+        if self.is_later(txn) {
+            return own_job(txn, self.open());
+        }
+        own_job(txn, self.as_slice())
     }
 
     // Whether a response to this changes no job that rests, as far as can be told at once.

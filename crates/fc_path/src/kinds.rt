@@ -56,7 +56,7 @@ pub fn operation_for(message: u8, kind: u16) -> Option<Operation>
 }
 
 /// Whether messages of a type hold LFBselects.
-pub fn holds_selects(message: u8) -> bool
+pub(crate) fn holds_selects(message: u8) -> bool
     ensures { result ≡ holds message }
 {
     message == 1

@@ -21,7 +21,7 @@ mod write;
 pub use body_heads::{BodyRef, LeafRef};
 pub use fault::PathFault;
 pub use heads::{Ids, KeyRef, PathHead};
-pub use kinds::{Operation, holds_selects, operation_for};
+pub use kinds::{Operation, operation_for};
 pub use laws::{
     a_path_is_its_head_and_its_body, faults_are_in_reading_order, reading_is_the_grammar,
     selects_and_operations_are_their_heads_and_what_they_hold, selects_are_unique,
@@ -33,4 +33,4 @@ pub use path::{Body, Key, PathData};
 pub use results::{fits_results, oper_size, path_size, select_size};
 pub use select_heads::{OperHead, SelectHead};
 pub use stray::{misplaced, must_be_nested, must_be_path, no_more, no_more_bodies};
-pub use write::{put_ids, write_leaf, write_outcome, write_response};
+pub use write::{write_leaf, write_outcome, write_response};

@@ -67,7 +67,8 @@ pub fn trailing(tlv: &Tlv) -> PathFault
 /// That a TLV in an operation is a PATH-DATA. Else `WrongBody`, or `UnknownTlv` where its type is in no table, at its place.
 #[inline(always)]
 pub fn must_be_path(tlv: &Tlv) -> Result<(), PathFault>
-    ensures { Gives result (a_path is_misplaced tlv.now) }
+    ensures exact { Gives result (a_path is_misplaced tlv.now) }
+    ensures sure { IsErrOf result Memory → ⊥ }
 {
     if tlv.kind == PATH_DATA {
         Ok(())
@@ -80,7 +81,8 @@ pub fn must_be_path(tlv: &Tlv) -> Result<(), PathFault>
 /// in no table, at its place.
 #[inline(always)]
 pub fn must_be_nested(tlv: &Tlv) -> Result<(), PathFault>
-    ensures { Gives result (a_path is_beside tlv.now) }
+    ensures exact { Gives result (a_path is_beside tlv.now) }
+    ensures sure { IsErrOf result Memory → ⊥ }
 {
     if tlv.kind == PATH_DATA {
         Ok(())
@@ -92,7 +94,8 @@ pub fn must_be_nested(tlv: &Tlv) -> Result<(), PathFault>
 /// That nothing stands behind the body of a PATH-DATA that is no PATH-DATA. Else `TlvShort` or `TlvPast`, `TwoBodies`, or
 /// `UnknownTlv` where the type of what stands there is in no table.
 pub fn no_more_bodies(mut tlvs: Tlvs) -> Result<(), PathFault>
-    ensures { Gives result (shut is_beside tlvs.entry.items tlvs.entry.fault) }
+    ensures exact { Gives result (shut is_beside tlvs.entry.items tlvs.entry.fault) }
+    ensures sure { IsErrOf result Memory → ⊥ }
 {
     match tlvs.next() {
         None => Ok(()),

@@ -16,7 +16,7 @@ use fc_wire::{
 };
 
 /// Puts IDs, each in four bytes.
-pub fn put_ids(to: &mut TlvWriter, ids: &[u32]) -> Result<(), Memory>
+pub(crate) fn put_ids(to: &mut TlvWriter, ids: &[u32]) -> Result<(), Memory>
     ensures { OnOk result (to.new ≡ writing (to.old.text ++ flat_map u32_bytes ids.now) to.old.places) }
 {
     for id in ids {

@@ -132,14 +132,23 @@ fn order_at(entries: &[(u32, Value)], place: usize, subscript: u32) -> Ordering
     entries[place].0.cmp(&subscript)
 }
 
-// Where a subscript stands among entries that rise, or else where it belongs.
+// Where a subscript stands among entries that rise, or else where it belongs. The last entry is looked at first: the place of what
+// belongs behind all of them is found by that one alone.
 fn place_of(entries: &[(u32, Value)], subscript: u32) -> Result<usize, usize>
     requires { IsTrue (is_sorted nat_cmp entries.now) }
     ensures place { IsPlace entries.now subscript result }
     ensures range { IsSearchInRange result (length entries.now) }
 {
+    let len = entries.len();
+    if let Some(last) = len.checked_sub(1) {
+        match order_at(entries, last, subscript) {
+            Ordering::Less => return Err(len),
+            Ordering::Equal => return Ok(last),
+            Ordering::Greater => {}
+        }
+    }
     let mut low = 0;
-    let mut high = entries.len();
+    let mut high = len;
     while low < high {
         let middle = low + (high - low) / 2;
         match order_at(entries, middle, subscript) {

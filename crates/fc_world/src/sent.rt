@@ -109,8 +109,34 @@ pub fn count(batches: &[Batch]) -> usize
     }
 }
 
-// How many batches begin at this place or before it; they are in front of the others. What was just sent stands in the last batch, which is
-// looked at first.
+// How many batches at the end stand near it.
+const NEAR: usize = 32;
+
+// How many batches begin at this place or before it, where those in front of the first bound do, and those from the second one on do not.
+fn begun_between(place: usize, batches: &[Batch], from: usize, to: usize) -> usize
+    requires ordered { from ≤ to }
+    requires within { to ≤ length batches.now }
+    requires begun { 0 < from → HoldsAt (λ (b : Batch). b.before ≤ place) batches.now (from - 1) }
+    requires later { to < length batches.now → HoldsAt (λ (b : Batch). place < b.before) batches.now to }
+    ensures within { result ≤ length batches.now }
+    ensures begun { 0 < result → HoldsAt (λ (b : Batch). b.before ≤ place) batches.now (result - 1) }
+    ensures later { result < length batches.now → HoldsAt (λ (b : Batch). place < b.before) batches.now result }
+{
+    let mut low = from;
+    let mut high = to;
+    while low < high {
+        let middle = low + (high - low) / 2;
+        if batches[middle].before <= place {
+            low = middle + 1;
+        } else {
+            high = middle;
+        }
+    }
+    low
+}
+
+// How many batches begin at this place or before it; they are in front of the others. What is asked for was, as a rule, sent a short
+// while ago: so the last batch is looked at first, and then those near the end apart from the others.
 fn begun_at(place: usize, batches: &[Batch]) -> usize
     ensures within { result ≤ length batches.now }
     ensures begun { 0 < result → HoldsAt (λ (b : Batch). b.before ≤ place) batches.now (result - 1) }
@@ -121,17 +147,17 @@ fn begun_at(place: usize, batches: &[Batch]) -> usize
             return batches.len();
         }
     }
-    let mut low = 0;
-    let mut high = batches.len();
-    while low < high {
-        let middle = low + (high - low) / 2;
-        if batches[middle].before <= place {
-            low = middle + 1;
-        } else {
-            high = middle;
+    let len = batches.len();
+    match len.checked_sub(NEAR) {
+        None => begun_between(place, batches, 0, len),
+        Some(near) => {
+            if batches[near].before <= place {
+                begun_between(place, batches, near + 1, len)
+            } else {
+                begun_between(place, batches, 0, near)
+            }
         }
     }
-    low
 }
 
 // The batch in which the message of this number stands, counted from 1, and its place there.

@@ -26,7 +26,7 @@ show_body-returns-clause-shown t c =
 pub show_held-returns-in_ok-show_leaf-in-Leaf-clause-shown : goal.show_held-returns-in_ok-show_leaf-in-Leaf-clause-shown
 show_held-returns-in_ok-show_leaf-in-Leaf-clause-shown t c =
     leaf_goes (path_at c.args.kind c.args.depth) c.args.level c.args.lent c.no_more_bodies.result c.in-Leaf.leaf c.in-Leaf.behind c.args.into.now.items c.show_leaf.new.into.items c.in-Leaf.is c.in_ok-show_leaf-in-Leaf.ensures.shown
-    c.no_more_bodies.ensures
+    c.no_more_bodies.ensures.exact
 
 pub show_held-returns-in-Nested-clause-shown : goal.show_held-returns-in-Nested-clause-shown
 show_held-returns-in-Nested-clause-shown t c =
@@ -39,7 +39,7 @@ show_more_nested-items-preserved t c =
     record {
       so_far = goes (path_or beside one) text c.items.tlvs.items c.items.tlvs.fault c.in-Ok.tlv c.next.new.self _ c.items.into.items c.show_path_at.new.into.items _ c.items.invariant.so_far
           (ap Some (sym c.in-Ok.is) ∙ c.in-Some.ensures.next) c.next.ensures.rest
-          (ap (λ r. shown r text c.items.into.items) (path_there beside one c.in-Ok.tlv c.in_ok-must_be_nested-in-Ok.ensures) ∙ c.in_ok-show_path_at-in-Ok.ensures.shown);
+          (ap (λ r. shown r text c.items.into.items) (path_there beside one c.in-Ok.tlv c.in_ok-must_be_nested-in-Ok.ensures.exact) ∙ c.in_ok-show_path_at-in-Ok.ensures.shown);
       kept = keeps_on c.args.into.now.items c.items.into.items c.show_path_at.new.into.items c.items.invariant.kept c.in_ok-show_path_at-in-Ok.ensures.kept;
     }
 

@@ -1,7 +1,7 @@
 use Rattle.std.proofs.Common.{◌-◌, ◌<◌, ◌≤◌, length}
 use Rattle.std.specs.List.{HoldsAt}
 use Rattle.fc_world.specs.declared.sent.Batch.{Batch}
-use Rattle.fc_world.proofs.sent.begun_at.Given as goal
+use Rattle.fc_world.proofs.sent.begun_between.Given as goal
 
 abbrev pub invariant-loop-low : goal.invariant-loop-low
 invariant-loop-low l = record {
