@@ -46,14 +46,14 @@ alike o p one other done first second old new renewed same here there =
     }
 
 pub cut_alike : (limit : ℕ) (asked : Asked) (document : List ℕ) (before after : List HubEvent) (peer : ℕ) (front back : List ℕ) (taken : ℕ) (done : List (ℕ × Act)) (given gave : Given) (one other : ControlEnd)
-    (l k : Option (List ℕ)) (first second : Option Held) (old : List ℕ) (new renewed : Option (List ℕ)) → IsRunOut one → IsRunOut other
-    → ControlEnds limit asked (Ok one) (Some document) l given gave (Some (holds (before ++ Bytes peer front ∷ Bytes peer back ∷ after) taken done)) first (Some old) new
-    → ControlEnds limit asked (Ok other) (Some document) k given gave (Some (holds (before ++ Bytes peer (front ++ back) ∷ after) taken done)) second (Some old) renewed
+    (l k : Option (List ℕ)) (first second : Option Held) (old : List ℕ) (new renewed : Option (List ℕ)) (read reads served serves took takes : ℕ × ℕ) → IsRunOut one → IsRunOut other
+    → ControlEnds limit asked read served took (Ok one) (Some document) l given gave (Some (holds (before ++ Bytes peer front ∷ Bytes peer back ∷ after) taken done)) first (Some old) new
+    → ControlEnds limit asked reads serves takes (Ok other) (Some document) k given gave (Some (holds (before ++ Bytes peer (front ++ back) ∷ after) taken done)) second (Some old) renewed
     → EndAlike one other first second new renewed
-cut_alike limit asked document before after peer front back taken done given gave one other l k first second old new renewed a b here there =
+cut_alike limit asked document before after peer front back taken done given gave one other l k first second old new renewed read reads served serves took takes a b here there =
     let these = before ++ Bytes peer front ∷ Bytes peer back ∷ after in
     let those = before ++ Bytes peer (front ++ back) ∷ after in
     alike (outcome_of limit asked document gave.last these) (outcome_of limit asked document gave.last those) one other done first second old new renewed
     (same_by _ asked (plan_for asked.addresses document) gave.last these those (λ n. run_alike n before after peer front back))
-    (decided one limit asked document l given gave these taken done first old new a here)
-    (decided other limit asked document k given gave those taken done second old renewed b there)
+    (decided one limit asked document l given gave these taken done first old new read served took a here)
+    (decided other limit asked document k given gave those taken done second old renewed reads serves takes b there)

@@ -127,31 +127,31 @@ begun_is limit asked document bytes left round given gave coming plan read means
     ap (λ r. outcome_of limit asked document r coming) (sym (last_is round given gave took)) ∙ whole_is limit asked document bytes left round coming read
     ∙ planned_is asked meant plan round coming means ∙ ap (λ b. outcome_by_round b (node_given asked.ce round meant) round coming) (round_is round is)
 
-pub decided : (e : ControlEnd) (limit : ℕ) (asked : Asked) (document : List ℕ) (left : Option (List ℕ)) (given gave : Given) (coming : List HubEvent) (taken : ℕ) (done : List (ℕ × Act)) (new : Option Held) (old : List ℕ) (text : Option (List ℕ))
-    → IsRunOut e → ControlEnds limit asked (Ok e) (Some document) left given gave (Some (holds coming taken done)) new (Some old) text
+pub decided : (e : ControlEnd) (limit : ℕ) (asked : Asked) (document : List ℕ) (left : Option (List ℕ)) (given gave : Given) (coming : List HubEvent) (taken : ℕ) (done : List (ℕ × Act)) (new : Option Held) (old : List ℕ) (text : Option (List ℕ)) (source hub rounds : ℕ × ℕ)
+    → IsRunOut e → ControlEnds limit asked source hub rounds (Ok e) (Some document) left given gave (Some (holds coming taken done)) new (Some old) text
     → CameTo (outcome_of limit asked document gave.last coming) e done new old text
-decided Done limit asked document left given gave coming taken done new old text out (written, (bytes, round, events, read, ((plan, means), (took, is), (few, goes, went, all, at), writes)), wrote) =
+decided Done limit asked document left given gave coming taken done new old text f h r out (written, (bytes, round, events, read, ((plan, means), (took, is), (few, goes, went, all, at), writes), counts), wrote) =
     ran_all _ _ round true coming events taken done new old text written (begun_is limit asked document bytes left round given gave coming plan read means took is) went all goes at writes wrote
-decided Unfinished limit asked document left given gave coming taken done new old text out (written, (bytes, round, events, read, ((plan, means), (took, is), (few, goes, went, all, at), writes)), wrote) =
+decided Unfinished limit asked document left given gave coming taken done new old text f h r out (written, (bytes, round, events, read, ((plan, means), (took, is), (few, goes, went, all, at), writes), counts), wrote) =
     ran_all _ _ round false coming events taken done new old text written (begun_is limit asked document bytes left round given gave coming plan read means took is) went all goes at writes wrote
-decided Deposed limit asked document left given gave coming taken done new old text out (written, (bytes, round, events, read, ((plan, means), (took, is), (before, last, split, few, goes, went, ended), writes)), wrote) =
+decided Deposed limit asked document left given gave coming taken done new old text f h r out (written, (bytes, round, events, read, ((plan, means), (took, is), (before, last, split, few, goes, went, ended), writes), counts), wrote) =
     ran_deposed _ _ round coming events taken done new old text written (begun_is limit asked document bytes left round given gave coming plan read means took is) went ended writes wrote
-decided NoRound limit asked document left given gave coming taken done new old text out (written, (bytes, round, events, read, ((plan, means), (took, long), kept, writes)), wrote) =
+decided NoRound limit asked document left given gave coming taken done new old text f h r out (written, (bytes, round, events, read, ((plan, means), (took, long), kept, writes), counts), wrote) =
     let meant = plan_for asked.addresses bytes in
     came _ (outcome NoRound (no_round_text round) []) NoRound written done new old text
     (ap (λ r. outcome_of limit asked document r coming) (sym (last_is round given gave took)) ∙ whole_is limit asked document bytes left round coming read
     ∙ planned_is asked meant plan round coming means ∙ ap (λ b. outcome_by_round b (node_given asked.ce round meant) round coming) (round_is_none round long))
     refl writes (kept_acts coming taken done new kept) wrote
-decided Refused limit asked document left given gave coming taken done new old text out (written, (bytes, round, events, read, ((fault, means), gives, kept, writes)), wrote) =
+decided Refused limit asked document left given gave coming taken done new old text f h r out (written, (bytes, round, events, read, ((fault, means), gives, kept, writes), counts), wrote) =
     let meant = plan_for asked.addresses bytes in
     came _ (outcome Refused (refused_text meant) []) Refused written done new old text
     (whole_is limit asked document bytes left gave.last coming read ∙ refused_is asked meant fault gave.last coming means) refl writes (kept_acts coming taken done new kept) wrote
-decided TooLong limit asked document left given gave coming taken done new old text out (written, (bytes, round, events, read, (means, gives, kept, writes)), wrote) =
+decided TooLong limit asked document left given gave coming taken done new old text f h r out (written, (bytes, round, events, read, (means, gives, kept, writes), counts), wrote) =
     came _ (outcome TooLong [] []) TooLong written done new old text (long_is limit asked document bytes left gave.last coming read) refl writes (kept_acts coming taken done new kept) wrote
-decided Turns limit asked document left given gave coming taken done new old text out ends = absurd out
-decided HubFault limit asked document left given gave coming taken done new old text out ends = absurd out
-decided RoundsFault limit asked document left given gave coming taken done new old text out ends = absurd out
-decided ReadFault limit asked document left given gave coming taken done new old text out ends = absurd out
+decided Turns limit asked document left given gave coming taken done new old text f h r out ends = absurd out
+decided HubFault limit asked document left given gave coming taken done new old text f h r out ends = absurd out
+decided RoundsFault limit asked document left given gave coming taken done new old text f h r out ends = absurd out
+decided ReadFault limit asked document left given gave coming taken done new old text f h r out ends = absurd out
 
 -- ---- as many events as are to be taken
 
@@ -177,27 +177,27 @@ same_round given gave round other one two = last_is round given gave one ∙ sym
 same_bytes : (limit : ℕ) (document one two : List ℕ) (l k : Option (List ℕ)) → LookEnds limit (Ok look.Whole) one (Some document) l → LookEnds limit (Ok look.Whole) two (Some document) k → one ≡ two
 same_bytes limit document one two l k (consumed, end, le) (read, finish, short) = sym (all_read document one l consumed end) ∙ all_read document two k read finish
 
-pub never_turns : (e : ControlEnd) (limit : ℕ) (asked : Asked) (document : List ℕ) (l k : Option (List ℕ)) (given gave : Given) (held : Held) (new other : Option Held) (o p n m : Option (List ℕ)) → IsRunOut e
-    → ControlEnds limit asked (Ok e) (Some document) l given gave (Some held) new o n → ControlEnds limit asked (Ok Turns) (Some document) k given gave (Some held) other p m → ⊥
-never_turns Done limit asked document l k given gave held new other o p n m out (written, (bytes, round, events, read, (means, took, (few, goes, went, all, at), writes)), wrote) (line, (reads, number, others, looked, (meant, (gives, is), (count, going, goes_on), says)), writes_on) =
+pub never_turns : (e : ControlEnd) (limit : ℕ) (asked : Asked) (document : List ℕ) (l k : Option (List ℕ)) (given gave : Given) (held : Held) (new other : Option Held) (o p n m : Option (List ℕ)) (read reads served serves took takes : ℕ × ℕ) → IsRunOut e
+    → ControlEnds limit asked read served took (Ok e) (Some document) l given gave (Some held) new o n → ControlEnds limit asked reads serves takes (Ok Turns) (Some document) k given gave (Some held) other p m → ⊥
+never_turns Done limit asked document l k given gave held new other o p n m a b c d f h out (written, (bytes, round, events, read, (means, took, (few, goes, went, all, at), writes), counts), wrote) (line, (reads, number, others, looked, (meant, (gives, is), (count, going, goes_on), says), tells), writes_on) =
     over_turns held _ _ asked.turns events others new other few went all count goes_on
-never_turns Unfinished limit asked document l k given gave held new other o p n m out (written, (bytes, round, events, read, (means, took, (few, goes, went, all, at), writes)), wrote) (line, (reads, number, others, looked, (meant, (gives, is), (count, going, goes_on), says)), writes_on) =
+never_turns Unfinished limit asked document l k given gave held new other o p n m a b c d f h out (written, (bytes, round, events, read, (means, took, (few, goes, went, all, at), writes), counts), wrote) (line, (reads, number, others, looked, (meant, (gives, is), (count, going, goes_on), says), tells), writes_on) =
     over_turns held _ _ asked.turns events others new other few went all count goes_on
-never_turns Deposed limit asked document l k given gave held new other o p n m out (written, (bytes, round, events, read, (means, (took, is_one), (before, last, split, few, goes, went, ended), writes)), wrote) (line, (reads, number, others, looked, (meant, (gives, is), (count, going, goes_on), says)), writes_on) =
+never_turns Deposed limit asked document l k given gave held new other o p n m a b c d f h out (written, (bytes, round, events, read, (means, (took, is_one), (before, last, split, few, goes, went, ended), writes), counts), wrote) (line, (reads, number, others, looked, (meant, (gives, is), (count, going, goes_on), says), tells), writes_on) =
     let here : NodeState = node_given asked.ce round (plan_for asked.addresses bytes) in
     let same : node_given asked.ce number (plan_for asked.addresses reads) ≡ here =
     ap (λ r. node_given asked.ce r (plan_for asked.addresses reads)) (same_round given gave number round gives took)
     ∙ ap (λ b. node_given asked.ce round (plan_for asked.addresses b)) (same_bytes limit document reads bytes k l looked read) in
     deposed_turns held here asked.turns before events others last new other split few went ended count
     (subst (λ (x : NodeState). Went (Some held) other x others) same goes_on) (subst (λ (x : NodeState). Goes x others) same going)
-never_turns NoRound limit asked document l k given gave held new other o p n m out (written, (bytes, round, events, read, (means, (took, long), kept, writes)), wrote) (line, (reads, number, others, looked, (meant, (gives, is), (count, going, goes_on), says)), writes_on) =
+never_turns NoRound limit asked document l k given gave held new other o p n m a b c d f h out (written, (bytes, round, events, read, (means, (took, long), kept, writes), counts), wrote) (line, (reads, number, others, looked, (meant, (gives, is), (count, going, goes_on), says), tells), writes_on) =
     absurd (omega (arith, same_round given gave round number took gives, long, is.1))
-never_turns Refused limit asked document l k given gave held new other o p n m out (written, (bytes, round, events, read, ((fault, means), took, kept, writes)), wrote) (line, (reads, number, others, looked, ((plan, meant), (gives, is), (count, going, goes_on), says)), writes_on) =
+never_turns Refused limit asked document l k given gave held new other o p n m a b c d f h out (written, (bytes, round, events, read, ((fault, means), took, kept, writes), counts), wrote) (line, (reads, number, others, looked, ((plan, meant), (gives, is), (count, going, goes_on), says), tells), writes_on) =
     let same : Err fault ≡ Ok plan = sym means ∙ ap (plan_for asked.addresses) (same_bytes limit document bytes reads l k read looked) ∙ meant in
     absurd (cc same)
-never_turns TooLong limit asked document l k given gave held new other o p n m out (written, (bytes, round, events, read, (means, took, kept, writes)), wrote) (line, (reads, number, others, looked, (meant, (gives, is), (count, going, goes_on), says)), writes_on) =
+never_turns TooLong limit asked document l k given gave held new other o p n m a b c d f h out (written, (bytes, round, events, read, (means, took, kept, writes), counts), wrote) (line, (reads, number, others, looked, (meant, (gives, is), (count, going, goes_on), says), tells), writes_on) =
     absurd (whole_long limit document reads bytes k l looked read)
-never_turns Turns limit asked document l k given gave held new other o p n m out one two = absurd out
-never_turns HubFault limit asked document l k given gave held new other o p n m out one two = absurd out
-never_turns RoundsFault limit asked document l k given gave held new other o p n m out one two = absurd out
-never_turns ReadFault limit asked document l k given gave held new other o p n m out one two = absurd out
+never_turns Turns limit asked document l k given gave held new other o p n m a b c d f h out one two = absurd out
+never_turns HubFault limit asked document l k given gave held new other o p n m a b c d f h out one two = absurd out
+never_turns RoundsFault limit asked document l k given gave held new other o p n m a b c d f h out one two = absurd out
+never_turns ReadFault limit asked document l k given gave held new other o p n m a b c d f h out one two = absurd out

@@ -35,14 +35,14 @@ control_decides (Err WriteFault) f f' k k' h h' r r' source sink hub rounds read
 control_decides (Err NoMemory) f f' k k' h h' r r' source sink hub rounds read wrote served given = inr (inr (inr (inr (inr (inr (inr refl))))))
 
 pub control_runs : (how : Result ControlEnd Stop) (limit : ℕ) (asked : Asked) (status : ℕ) (before left : Option (List ℕ)) (given gave : Given) (first last : Option Held) (old new : Option (List ℕ)) (f f' k k' h h' r r' : ℕ)
-    → status ≡ control_status how → ControlEnds limit asked how before left given gave first last old new → EndCount is_unread how f f' → SinkCount how k k' → EndCount is_unserved how h h' → EndCount is_ungiven how r r'
-    → ControlRuns limit asked status before left given gave first last old new (Rose f f') (Rose k k') (Rose h h') (Rose r r')
+    → status ≡ control_status how → ControlEnds limit asked (f, f') (h, h') (r, r') how before left given gave first last old new → EndCount is_unread how f f' → SinkCount how k k' → EndCount is_unserved how h h' → EndCount is_ungiven how r r'
+    → ControlRuns limit asked status before left given gave first last old new (f, f') (k, k') (h, h') (r, r')
 control_runs how limit asked status before left given gave first last old new f f' k k' h h' r r' is ends source sink hub rounds =
     record { ends = (how, is, ends); complete = λ read wrote served took. rw is (control_decides how f f' k k' h h' r r' source sink hub rounds read wrote served took) }
 
 -- no memory, and nothing was done
 pub control_none : (limit : ℕ) (asked : Asked) (left : Option (List ℕ)) (given : Given) (held : Option Held) (known : Option (List ℕ)) (f k h r : ℕ)
-    → ControlRuns limit asked 9 left left given given held held known known (Rose f f) (Rose k k) (Rose h h) (Rose r r)
+    → ControlRuns limit asked 9 left left given given held held known known (f, f) (k, k) (h, h) (r, r)
 control_none limit asked left given held known f k h r =
-    control_runs (Err NoMemory) limit asked 9 left left given given held held known known f f k k h h r r refl (inr (inl ([], consumes_none left, omega arith, refl, refl), Appends-nil known))
+    control_runs (Err NoMemory) limit asked 9 left left given given held held known known f f k k h h r r refl (inr (((refl, (refl, refl)), inl ([], consumes_none left, omega arith, refl, refl)), Appends-nil known))
     (inl refl) refl (inl refl) (inl refl)

@@ -14,7 +14,7 @@ use Rattle.fc_control.specs.Reports.{is_done, report_of}
 use Rattle.fc_control.specs.Serving.{AreAll, Broke, Goes, Went}
 use Rattle.fc_control.specs.declared.running.Served.{Served}
 use Rattle.fc_control.specs.declared.running.Served.TheVariants as served
-use Rattle.fc_endings.specs.Endings.{CommandEnds}
+use Rattle.fc_endings.specs.Endings.{CommandEnds, RoseIf}
 use Rattle.fc_endings.specs.Looks.{LookEnds}
 use Rattle.fc_endings.specs.Stops.{stop_status}
 use Rattle.fc_endings.specs.declared.input.Look.{Look}
@@ -153,66 +153,7 @@ abbrev pub RoundLacked : Asked → Result Planned LibFault → Given → Given �
 RoundLacked asked meant given gave old new =
     MeansPlan meant × ((round : ℕ) × Gave round given gave × HubLacked (node_given asked.ce round meant) asked.turns old new)
 
--- ---- the command, over an input of which so many bytes are looked at
-
-abbrev pub ControlWent : ℕ → Asked → Option (List ℕ) → Option (List ℕ) → Given → Given → Option Held → Option Held → ControlEnd → List ℕ → Type 0
-ControlWent limit asked before left given gave old new end written =
-    (bytes : List ℕ) × (round : ℕ) × (events : List HubEvent) × LookEnds limit (Ok (look_of end)) bytes before left
-    × EndedSo asked (plan_for asked.addresses bytes) end round events given gave old new written
-
--- out of memory before it came to an end: while the input was read and judged, or once a round was taken
-abbrev pub ControlLacked : ℕ → Asked → Option (List ℕ) → Option (List ℕ) → Given → Given → Option Held → Option Held → Type 0
-ControlLacked limit asked before left given gave old new =
-    ((bytes : List ℕ) × Consumes before left bytes × (length bytes ≤ limit) × (gave ≡ given) × (new ≡ old))
-    ⊎ ((bytes : List ℕ) × LookEnds limit (Ok look.Whole) bytes before left × RoundLacked asked (plan_for asked.addresses bytes) given gave old new)
-
--- How `control` ends: what was read, which round was taken, what was done on the hub, and what was written.
-abbrev pub ControlEnds : ℕ → Asked → Result ControlEnd Stop → Option (List ℕ) → Option (List ℕ) → Given → Given → Option Held → Option Held → Option (List ℕ) → Option (List ℕ) → Type 0
-ControlEnds limit asked how before left given gave old new text now =
-    CommandEnds ControlEnd (ControlWent limit asked before left given gave old new) (ControlLacked limit asked before left given gave old new) how text now
-
--- the same once the input was read whole, by what it means
-abbrev pub MeantWent : Asked → Result Planned LibFault → Given → Given → Option Held → Option Held → ControlEnd → List ℕ → Type 0
-MeantWent asked meant given gave old new end written =
-    (round : ℕ) × (events : List HubEvent) × (look_of end ≡ look.Whole) × EndedSo asked meant end round events given gave old new written
-
-abbrev pub MeantLacked : Asked → Result Planned LibFault → Given → Given → Option Held → Option Held → Type 0
-MeantLacked asked meant given gave old new = ((gave ≡ given) × (new ≡ old)) ⊎ RoundLacked asked meant given gave old new
-
-abbrev pub MeantEnds : Asked → Result Planned LibFault → Result ControlEnd Stop → Given → Given → Option Held → Option Held → Option (List ℕ) → Option (List ℕ) → Type 0
-MeantEnds asked meant how given gave old new text now =
-    CommandEnds ControlEnd (MeantWent asked meant given gave old new) (MeantLacked asked meant given gave old new) how text now
-
--- the ends once the node has begun
-abbrev pub IsRun : ControlEnd → Type 0
-IsRun Done = ⊤
-IsRun Unfinished = ⊤
-IsRun Deposed = ⊤
-IsRun Turns = ⊤
-IsRun HubFault = ⊤
-IsRun RoundsFault = ⊥
-IsRun NoRound = ⊥
-IsRun Refused = ⊥
-IsRun ReadFault = ⊥
-IsRun TooLong = ⊥
-
-abbrev pub RunWent : NodeState → ℕ → Option Held → Option Held → ControlEnd → List ℕ → Type 0
-RunWent n turns old new end written = (events : List HubEvent) × IsRun end × ActedSo n turns end events old new × (written ≡ run_text n end events)
-
-abbrev pub RunEnds : NodeState → ℕ → Result ControlEnd Stop → Option Held → Option Held → Option (List ℕ) → Option (List ℕ) → Type 0
-RunEnds n turns how old new text now = CommandEnds ControlEnd (RunWent n turns old new) (HubLacked n turns old new) how text now
-
--- ---- ends and statuses
-
-abbrev pub if_done : Bool → ControlEnd
-if_done true = Done
-if_done false = Unfinished
-
--- the end of a control element whose node ended so
-abbrev pub end_by : Served → ControlState → ControlEnd
-end_by served.Over n = if_done (is_done n)
-end_by served.Deposed n = Deposed
-end_by served.Turns n = Turns
+-- ---- counts of failures, each before and now
 
 -- the ends that tell that the input can't be read, that the hub failed, and that the rounds did
 abbrev pub is_unread : ControlEnd → Bool
@@ -250,6 +191,89 @@ is_ungiven NoRound = false
 is_ungiven Refused = false
 is_ungiven ReadFault = false
 is_ungiven TooLong = false
+
+-- those of the hub and of the rounds: each rose exactly where the end tells that it failed
+abbrev pub NetTells : ℕ × ℕ → ℕ × ℕ → ControlEnd → Type 0
+NetTells hub rounds end = RoseIf (is_unserved end) hub.0 hub.1 × RoseIf (is_ungiven end) rounds.0 rounds.1
+
+-- and that of the source
+abbrev pub CountsTell : ℕ × ℕ → ℕ × ℕ → ℕ × ℕ → ControlEnd → Type 0
+CountsTell source hub rounds end = RoseIf (is_unread end) source.0 source.1 × NetTells hub rounds end
+
+-- neither that of the hub nor that of the rounds rose
+abbrev pub NetRests : ℕ × ℕ → ℕ × ℕ → Type 0
+NetRests hub rounds = (hub.1 ≡ hub.0) × (rounds.1 ≡ rounds.0)
+
+-- none rose
+abbrev pub NoneRose : ℕ × ℕ → ℕ × ℕ → ℕ × ℕ → Type 0
+NoneRose source hub rounds = (source.1 ≡ source.0) × NetRests hub rounds
+
+-- ---- the command, over an input of which so many bytes are looked at
+
+abbrev pub ControlWent : ℕ → Asked → ℕ × ℕ → ℕ × ℕ → ℕ × ℕ → Option (List ℕ) → Option (List ℕ) → Given → Given → Option Held → Option Held → ControlEnd → List ℕ → Type 0
+ControlWent limit asked source hub rounds before left given gave old new end written =
+    (bytes : List ℕ) × (round : ℕ) × (events : List HubEvent) × LookEnds limit (Ok (look_of end)) bytes before left
+    × EndedSo asked (plan_for asked.addresses bytes) end round events given gave old new written × CountsTell source hub rounds end
+
+-- out of memory before it came to an end: while the input was read and judged, or once a round was taken
+abbrev pub ControlLacked : ℕ → Asked → ℕ × ℕ → ℕ × ℕ → ℕ × ℕ → Option (List ℕ) → Option (List ℕ) → Given → Given → Option Held → Option Held → Type 0
+ControlLacked limit asked source hub rounds before left given gave old new =
+    NoneRose source hub rounds
+    × (((bytes : List ℕ) × Consumes before left bytes × (length bytes ≤ limit) × (gave ≡ given) × (new ≡ old))
+    ⊎ ((bytes : List ℕ) × LookEnds limit (Ok look.Whole) bytes before left × RoundLacked asked (plan_for asked.addresses bytes) given gave old new))
+
+-- How `control` ends: what was read, which round was taken, what was done on the hub, and what was written, with the counts of failures of the source,
+-- of the hub and of the rounds.
+abbrev pub ControlEnds : ℕ → Asked → ℕ × ℕ → ℕ × ℕ → ℕ × ℕ → Result ControlEnd Stop → Option (List ℕ) → Option (List ℕ) → Given → Given → Option Held → Option Held → Option (List ℕ) → Option (List ℕ) → Type 0
+ControlEnds limit asked source hub rounds how before left given gave old new text now =
+    CommandEnds ControlEnd (ControlWent limit asked source hub rounds before left given gave old new) (ControlLacked limit asked source hub rounds before left given gave old new) how text now
+
+-- the same once the input was read whole, by what it means
+abbrev pub MeantWent : Asked → Result Planned LibFault → ℕ × ℕ → ℕ × ℕ → Given → Given → Option Held → Option Held → ControlEnd → List ℕ → Type 0
+MeantWent asked meant hub rounds given gave old new end written =
+    (round : ℕ) × (events : List HubEvent) × (look_of end ≡ look.Whole) × EndedSo asked meant end round events given gave old new written × NetTells hub rounds end
+
+abbrev pub MeantLacked : Asked → Result Planned LibFault → ℕ × ℕ → ℕ × ℕ → Given → Given → Option Held → Option Held → Type 0
+MeantLacked asked meant hub rounds given gave old new = NetRests hub rounds × (((gave ≡ given) × (new ≡ old)) ⊎ RoundLacked asked meant given gave old new)
+
+abbrev pub MeantEnds : Asked → Result Planned LibFault → ℕ × ℕ → ℕ × ℕ → Result ControlEnd Stop → Given → Given → Option Held → Option Held → Option (List ℕ) → Option (List ℕ) → Type 0
+MeantEnds asked meant hub rounds how given gave old new text now =
+    CommandEnds ControlEnd (MeantWent asked meant hub rounds given gave old new) (MeantLacked asked meant hub rounds given gave old new) how text now
+
+-- the ends once the node has begun
+abbrev pub IsRun : ControlEnd → Type 0
+IsRun Done = ⊤
+IsRun Unfinished = ⊤
+IsRun Deposed = ⊤
+IsRun Turns = ⊤
+IsRun HubFault = ⊤
+IsRun RoundsFault = ⊥
+IsRun NoRound = ⊥
+IsRun Refused = ⊥
+IsRun ReadFault = ⊥
+IsRun TooLong = ⊥
+
+abbrev pub RunWent : NodeState → ℕ → ℕ × ℕ → Option Held → Option Held → ControlEnd → List ℕ → Type 0
+RunWent n turns hub old new end written =
+    (events : List HubEvent) × IsRun end × ActedSo n turns end events old new × (written ≡ run_text n end events) × RoseIf (is_unserved end) hub.0 hub.1
+
+abbrev pub RunLacked : NodeState → ℕ → ℕ × ℕ → Option Held → Option Held → Type 0
+RunLacked n turns hub old new = (hub.1 ≡ hub.0) × HubLacked n turns old new
+
+abbrev pub RunEnds : NodeState → ℕ → ℕ × ℕ → Result ControlEnd Stop → Option Held → Option Held → Option (List ℕ) → Option (List ℕ) → Type 0
+RunEnds n turns hub how old new text now = CommandEnds ControlEnd (RunWent n turns hub old new) (RunLacked n turns hub old new) how text now
+
+-- ---- ends and statuses
+
+abbrev pub if_done : Bool → ControlEnd
+if_done true = Done
+if_done false = Unfinished
+
+-- the end of a control element whose node ended so
+abbrev pub end_by : Served → ControlState → ControlEnd
+end_by served.Over n = if_done (is_done n)
+end_by served.Deposed n = Deposed
+end_by served.Turns n = Turns
 
 -- the status of each ending
 abbrev pub control_status : Result ControlEnd Stop → ℕ

@@ -28,7 +28,7 @@ pub fn control<S: Source, K: Sink, H: Hub, R: Rounds>(
     rounds: &mut R,
 ) -> Result<ControlEnd, Stop>
     requires few { (R.given rounds.old).count < 2 ^ 64 - 1 }
-    ensures ends { ControlEnds most_bytes asked.now result (S.left input.old) (S.left input.new) (R.given rounds.old) (R.given rounds.new) (H.held hub.old) (H.held hub.new) (K.written out.old) (K.written out.new) }
+    ensures ends { ControlEnds most_bytes asked.now (S.faults input.old, S.faults input.new) (H.faults hub.old, H.faults hub.new) (R.faults rounds.old, R.faults rounds.new) result (S.left input.old) (S.left input.new) (R.given rounds.old) (R.given rounds.new) (H.held hub.old) (H.held hub.new) (K.written out.old) (K.written out.new) }
     ensures flushed { FlushedAt result (K.written out.new) (K.flushed out.old) (K.flushed out.new) }
     ensures source { EndCount is_unread result (S.faults input.old) (S.faults input.new) }
     ensures rounds { EndCount is_ungiven result (R.faults rounds.old) (R.faults rounds.new) }
@@ -52,7 +52,7 @@ fn control_ends<S: Source, K: Sink, H: Hub, R: Rounds>(
     rounds: &mut R,
 ) -> Result<ControlEnd, Stop>
     requires few { (R.given rounds.old).count < 2 ^ 64 - 1 }
-    ensures ends { ControlEnds most_bytes asked.now result (S.left input.old) (S.left input.new) (R.given rounds.old) (R.given rounds.new) (H.held hub.old) (H.held hub.new) (K.written out.old) (K.written out.new) }
+    ensures ends { ControlEnds most_bytes asked.now (S.faults input.old, S.faults input.new) (H.faults hub.old, H.faults hub.new) (R.faults rounds.old, R.faults rounds.new) result (S.left input.old) (S.left input.new) (R.given rounds.old) (R.given rounds.new) (H.held hub.old) (H.held hub.new) (K.written out.old) (K.written out.new) }
     ensures unflushed { K.flushed out.new ≡ K.flushed out.old }
     ensures source { EndCount is_unread result (S.faults input.old) (S.faults input.new) }
     ensures rounds { EndCount is_ungiven result (R.faults rounds.old) (R.faults rounds.new) }
@@ -79,7 +79,7 @@ fn declared_control<K: Sink, H: Hub, R: Rounds>(
     rounds: &mut R,
 ) -> Result<ControlEnd, Stop>
     requires few { (R.given rounds.old).count < 2 ^ 64 - 1 }
-    ensures ends { MeantEnds asked.now (plan_for asked.now.addresses document.now) result (R.given rounds.old) (R.given rounds.new) (H.held hub.old) (H.held hub.new) (K.written out.old) (K.written out.new) }
+    ensures ends { MeantEnds asked.now (plan_for asked.now.addresses document.now) (H.faults hub.old, H.faults hub.new) (R.faults rounds.old, R.faults rounds.new) result (R.given rounds.old) (R.given rounds.new) (H.held hub.old) (H.held hub.new) (K.written out.old) (K.written out.new) }
     ensures unflushed { K.flushed out.new ≡ K.flushed out.old }
     ensures rounds { EndCount is_ungiven result (R.faults rounds.old) (R.faults rounds.new) }
     ensures one { (R.given rounds.new).count ≤ (R.given rounds.old).count + 1 }
@@ -103,7 +103,7 @@ fn planned_control<K: Sink, H: Hub, R: Rounds>(
     rounds: &mut R,
 ) -> Result<ControlEnd, Stop>
     requires few { (R.given rounds.old).count < 2 ^ 64 - 1 }
-    ensures ends { MeantEnds asked.now (Ok plan) result (R.given rounds.old) (R.given rounds.new) (H.held hub.old) (H.held hub.new) (K.written out.old) (K.written out.new) }
+    ensures ends { MeantEnds asked.now (Ok plan) (H.faults hub.old, H.faults hub.new) (R.faults rounds.old, R.faults rounds.new) result (R.given rounds.old) (R.given rounds.new) (H.held hub.old) (H.held hub.new) (K.written out.old) (K.written out.new) }
     ensures unflushed { K.flushed out.new ≡ K.flushed out.old }
     ensures rounds { EndCount is_ungiven result (R.faults rounds.old) (R.faults rounds.new) }
     ensures one { (R.given rounds.new).count ≤ (R.given rounds.old).count + 1 }

@@ -54,7 +54,7 @@ pub(crate) fn run<K: Sink, H: Hub>(
     out: &mut K,
     hub: &mut H,
 ) -> Result<ControlEnd, Stop>
-    ensures ends { RunEnds (first_node asked.now.ce (first_life asked.now.ce epoch) plan.elements plan.transactions) asked.now.turns result (H.held hub.old) (H.held hub.new) (K.written out.old) (K.written out.new) }
+    ensures ends { RunEnds (first_node asked.now.ce (first_life asked.now.ce epoch) plan.elements plan.transactions) asked.now.turns (H.faults hub.old, H.faults hub.new) result (H.held hub.old) (H.held hub.new) (K.written out.old) (K.written out.new) }
     ensures unflushed { K.flushed out.new ≡ K.flushed out.old }
     ensures hub { EndCount is_unserved result (H.faults hub.old) (H.faults hub.new) }
     ensures sink { SinkCount result (K.faults out.old) (K.faults out.new) }

@@ -26,14 +26,14 @@ element_decides (Err WriteFault) f f' k k' h h' source sink hub read wrote serve
 element_decides (Err NoMemory) f f' k k' h h' source sink hub read wrote served = inr (inr (inr (inr refl)))
 
 pub element_runs : (how : Result ElementEnd Stop) (limit id ce turns status : ℕ) (before left : Option (List ℕ)) (first last : Option Held) (old new : Option (List ℕ)) (f f' k k' h h' : ℕ)
-    → status ≡ element_status how → ElementEnds limit id ce turns how before left first last old new
-    → EndCount is_unread how f f' → SinkCount how k k' → EndCount is_unserved how h h' → ElementRuns limit id ce turns status before left first last old new (Rose f f') (Rose k k') (Rose h h')
+    → status ≡ element_status how → ElementEnds limit id ce turns (f, f') (h, h') how before left first last old new
+    → EndCount is_unread how f f' → SinkCount how k k' → EndCount is_unserved how h h' → ElementRuns limit id ce turns status before left first last old new (f, f') (k, k') (h, h')
 element_runs how limit id ce turns status before left first last old new f f' k k' h h' is ends source sink hub =
     record { ends = (how, is, ends); complete = λ read wrote served. rw is (element_decides how f f' k k' h h' source sink hub read wrote served) }
 
 -- no memory, and nothing was done
 pub element_none : (limit id ce turns : ℕ) (left : Option (List ℕ)) (held : Option Held) (known : Option (List ℕ)) (f k h : ℕ)
-    → ElementRuns limit id ce turns 9 left left held held known known (Rose f f) (Rose k k) (Rose h h)
+    → ElementRuns limit id ce turns 9 left left held held known known (f, f) (k, k) (h, h)
 element_none limit id ce turns left held known f k h =
-    element_runs (Err NoMemory) limit id ce turns 9 left left held held known known f f k k h h refl (inr (inl ([], consumes_none left, omega arith, refl), Appends-nil known))
+    element_runs (Err NoMemory) limit id ce turns 9 left left held held known known f f k k h h refl (inr (((refl, refl), inl ([], consumes_none left, omega arith, refl)), Appends-nil known))
     (inl refl) refl (inl refl)

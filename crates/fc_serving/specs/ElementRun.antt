@@ -18,7 +18,7 @@ use Rattle.fc_serving.specs.declared.serve.Served.{Served}
 use Rattle.fc_serving.specs.declared.serve.Served.TheVariants as served
 use Rattle.fc_serving.specs.Serving.{AreAll, Broke, Went}
 use Rattle.fc_serving.specs.ElementNode.{NodeState, node_after, node_by}
-use Rattle.fc_endings.specs.Endings.{CommandEnds}
+use Rattle.fc_endings.specs.Endings.{CommandEnds, RoseIf}
 use Rattle.fc_endings.specs.Looks.{LookEnds}
 use Rattle.fc_endings.specs.Stops.{stop_status}
 
@@ -88,62 +88,6 @@ element_text n Refused bytes events = refused_text (library_of bytes)
 element_text n ReadFault bytes events = []
 element_text n TooLong bytes events = []
 
--- `element` came to an end over an input of which so many bytes are looked at, and over these events, and this is to be written
-abbrev pub ElementWent : ℕ → ℕ → ℕ → ℕ → Option (List ℕ) → Option (List ℕ) → Option Held → Option Held → ElementEnd → List ℕ → Type 0
-ElementWent limit id ce turns before left old new end written =
-    (bytes : List ℕ) × (events : List HubEvent) × LookEnds limit (Ok (look_of end)) bytes before left × JudgedSo end bytes
-    × ActedSo (node_by id ce bytes) turns end events old new × (written ≡ element_text (node_by id ce bytes) end bytes events)
-
--- out of memory over the hub: before the first event, or over one that is among those to be taken
-abbrev pub HubLacked : NodeState → ℕ → Option Held → Option Held → Type 0
-HubLacked n turns old new = (new ≡ old) ⊎ ((events : List HubEvent) × (length events < turns) × Broke stop.NoMemory old new n events)
-
--- out of memory before it came to an end: while the input was read and judged, or over the hub
-abbrev pub ElementLacked : ℕ → ℕ → ℕ → ℕ → Option (List ℕ) → Option (List ℕ) → Option Held → Option Held → Type 0
-ElementLacked limit id ce turns before left old new =
-    ((bytes : List ℕ) × Consumes before left bytes × (length bytes ≤ limit) × (new ≡ old))
-    ⊎ ((bytes : List ℕ) × LookEnds limit (Ok look.Whole) bytes before left × MeansLibrary bytes × HubLacked (node_by id ce bytes) turns old new)
-
--- How `element` ends: what was read, what was done on the hub, and what was written.
-abbrev pub ElementEnds : ℕ → ℕ → ℕ → ℕ → Result ElementEnd Stop → Option (List ℕ) → Option (List ℕ) → Option Held → Option Held → Option (List ℕ) → Option (List ℕ) → Type 0
-ElementEnds limit id ce turns how before left old new text now =
-    CommandEnds ElementEnd (ElementWent limit id ce turns before left old new) (ElementLacked limit id ce turns before left old new) how text now
-
--- the same of the hub and of what was written alone, once the input was read whole
-abbrev pub DocumentWent : ℕ → ℕ → ℕ → List ℕ → Option Held → Option Held → ElementEnd → List ℕ → Type 0
-DocumentWent id ce turns bytes old new end written =
-    (events : List HubEvent) × (look_of end ≡ look.Whole) × JudgedSo end bytes × ActedSo (node_by id ce bytes) turns end events old new
-    × (written ≡ element_text (node_by id ce bytes) end bytes events)
-
-abbrev pub DocumentLacked : ℕ → ℕ → ℕ → List ℕ → Option Held → Option Held → Type 0
-DocumentLacked id ce turns bytes old new = (new ≡ old) ⊎ (MeansLibrary bytes × HubLacked (node_by id ce bytes) turns old new)
-
-abbrev pub DocumentEnds : ℕ → ℕ → ℕ → List ℕ → Result ElementEnd Stop → Option Held → Option Held → Option (List ℕ) → Option (List ℕ) → Type 0
-DocumentEnds id ce turns bytes how old new text now =
-    CommandEnds ElementEnd (DocumentWent id ce turns bytes old new) (DocumentLacked id ce turns bytes old new) how text now
-
--- the endings over the hub
-abbrev pub IsRun : ElementEnd → Type 0
-IsRun Done = ⊤
-IsRun Turns = ⊤
-IsRun HubFault = ⊤
-IsRun Refused = ⊥
-IsRun ReadFault = ⊥
-IsRun TooLong = ⊥
-
--- the same once the document was seen to mean a library, whatever its bytes are, with the node of an element with that
-abbrev pub RunWent : NodeState → ℕ → Option Held → Option Held → ElementEnd → List ℕ → Type 0
-RunWent n turns old new end written =
-    (events : List HubEvent) × IsRun end × ActedSo n turns end events old new × (written ≡ element_text n end [] events)
-
-abbrev pub RunEnds : NodeState → ℕ → Result ElementEnd Stop → Option Held → Option Held → Option (List ℕ) → Option (List ℕ) → Type 0
-RunEnds n turns how old new text now = CommandEnds ElementEnd (RunWent n turns old new) (HubLacked n turns old new) how text now
-
--- the end of an element whose node ended so
-abbrev pub end_by : Served → ElementEnd
-end_by served.Over = Done
-end_by served.Turns = Turns
-
 -- the ends that tell that the input can't be read, and that the hub failed
 abbrev pub is_unread : ElementEnd → Bool
 is_unread ReadFault = true
@@ -160,6 +104,74 @@ is_unserved ReadFault = false
 is_unserved Refused = false
 is_unserved Turns = false
 is_unserved TooLong = false
+
+-- the counts of failures of the source and of the hub, each before and now: each rose exactly where the end tells that it failed
+abbrev pub CountsTell : ℕ × ℕ → ℕ × ℕ → ElementEnd → Type 0
+CountsTell source hub end = RoseIf (is_unread end) source.0 source.1 × RoseIf (is_unserved end) hub.0 hub.1
+
+-- neither rose
+abbrev pub NoneRose : ℕ × ℕ → ℕ × ℕ → Type 0
+NoneRose source hub = (source.1 ≡ source.0) × (hub.1 ≡ hub.0)
+
+-- `element` came to an end over an input of which so many bytes are looked at, and over these events, and this is to be written
+abbrev pub ElementWent : ℕ → ℕ → ℕ → ℕ → ℕ × ℕ → ℕ × ℕ → Option (List ℕ) → Option (List ℕ) → Option Held → Option Held → ElementEnd → List ℕ → Type 0
+ElementWent limit id ce turns source hub before left old new end written =
+    (bytes : List ℕ) × (events : List HubEvent) × LookEnds limit (Ok (look_of end)) bytes before left × JudgedSo end bytes
+    × ActedSo (node_by id ce bytes) turns end events old new × (written ≡ element_text (node_by id ce bytes) end bytes events) × CountsTell source hub end
+
+-- out of memory over the hub: before the first event, or over one that is among those to be taken
+abbrev pub HubLacked : NodeState → ℕ → Option Held → Option Held → Type 0
+HubLacked n turns old new = (new ≡ old) ⊎ ((events : List HubEvent) × (length events < turns) × Broke stop.NoMemory old new n events)
+
+-- out of memory before it came to an end: while the input was read and judged, or over the hub
+abbrev pub ElementLacked : ℕ → ℕ → ℕ → ℕ → ℕ × ℕ → ℕ × ℕ → Option (List ℕ) → Option (List ℕ) → Option Held → Option Held → Type 0
+ElementLacked limit id ce turns source hub before left old new =
+    NoneRose source hub
+    × (((bytes : List ℕ) × Consumes before left bytes × (length bytes ≤ limit) × (new ≡ old))
+    ⊎ ((bytes : List ℕ) × LookEnds limit (Ok look.Whole) bytes before left × MeansLibrary bytes × HubLacked (node_by id ce bytes) turns old new))
+
+-- How `element` ends: what was read, what was done on the hub, and what was written, with the counts of failures of the source and of the hub.
+abbrev pub ElementEnds : ℕ → ℕ → ℕ → ℕ → ℕ × ℕ → ℕ × ℕ → Result ElementEnd Stop → Option (List ℕ) → Option (List ℕ) → Option Held → Option Held → Option (List ℕ) → Option (List ℕ) → Type 0
+ElementEnds limit id ce turns source hub how before left old new text now =
+    CommandEnds ElementEnd (ElementWent limit id ce turns source hub before left old new) (ElementLacked limit id ce turns source hub before left old new) how text now
+
+-- the same of the hub and of what was written alone, once the input was read whole
+abbrev pub DocumentWent : ℕ → ℕ → ℕ → List ℕ → ℕ × ℕ → Option Held → Option Held → ElementEnd → List ℕ → Type 0
+DocumentWent id ce turns bytes hub old new end written =
+    (events : List HubEvent) × (look_of end ≡ look.Whole) × JudgedSo end bytes × ActedSo (node_by id ce bytes) turns end events old new
+    × (written ≡ element_text (node_by id ce bytes) end bytes events) × RoseIf (is_unserved end) hub.0 hub.1
+
+abbrev pub DocumentLacked : ℕ → ℕ → ℕ → List ℕ → ℕ × ℕ → Option Held → Option Held → Type 0
+DocumentLacked id ce turns bytes hub old new = (hub.1 ≡ hub.0) × ((new ≡ old) ⊎ (MeansLibrary bytes × HubLacked (node_by id ce bytes) turns old new))
+
+abbrev pub DocumentEnds : ℕ → ℕ → ℕ → List ℕ → ℕ × ℕ → Result ElementEnd Stop → Option Held → Option Held → Option (List ℕ) → Option (List ℕ) → Type 0
+DocumentEnds id ce turns bytes hub how old new text now =
+    CommandEnds ElementEnd (DocumentWent id ce turns bytes hub old new) (DocumentLacked id ce turns bytes hub old new) how text now
+
+-- the endings over the hub
+abbrev pub IsRun : ElementEnd → Type 0
+IsRun Done = ⊤
+IsRun Turns = ⊤
+IsRun HubFault = ⊤
+IsRun Refused = ⊥
+IsRun ReadFault = ⊥
+IsRun TooLong = ⊥
+
+-- the same once the document was seen to mean a library, whatever its bytes are, with the node of an element with that
+abbrev pub RunWent : NodeState → ℕ → ℕ × ℕ → Option Held → Option Held → ElementEnd → List ℕ → Type 0
+RunWent n turns hub old new end written =
+    (events : List HubEvent) × IsRun end × ActedSo n turns end events old new × (written ≡ element_text n end [] events) × RoseIf (is_unserved end) hub.0 hub.1
+
+abbrev pub RunLacked : NodeState → ℕ → ℕ × ℕ → Option Held → Option Held → Type 0
+RunLacked n turns hub old new = (hub.1 ≡ hub.0) × HubLacked n turns old new
+
+abbrev pub RunEnds : NodeState → ℕ → ℕ × ℕ → Result ElementEnd Stop → Option Held → Option Held → Option (List ℕ) → Option (List ℕ) → Type 0
+RunEnds n turns hub how old new text now = CommandEnds ElementEnd (RunWent n turns hub old new) (RunLacked n turns hub old new) how text now
+
+-- the end of an element whose node ended so
+abbrev pub end_by : Served → ElementEnd
+end_by served.Over = Done
+end_by served.Turns = Turns
 
 -- the status of each ending
 abbrev pub element_status : Result ElementEnd Stop → ℕ

@@ -24,7 +24,7 @@ pub fn element<S: Source, K: Sink, H: Hub>(
     out: &mut K,
     hub: &mut H,
 ) -> Result<ElementEnd, Stop>
-    ensures ends { ElementEnds most_bytes fe ce turns result (S.left input.old) (S.left input.new) (H.held hub.old) (H.held hub.new) (K.written out.old) (K.written out.new) }
+    ensures ends { ElementEnds most_bytes fe ce turns (S.faults input.old, S.faults input.new) (H.faults hub.old, H.faults hub.new) result (S.left input.old) (S.left input.new) (H.held hub.old) (H.held hub.new) (K.written out.old) (K.written out.new) }
     ensures flushed { FlushedAt result (K.written out.new) (K.flushed out.old) (K.flushed out.new) }
     ensures source { EndCount is_unread result (S.faults input.old) (S.faults input.new) }
     ensures hub { EndCount is_unserved result (H.faults hub.old) (H.faults hub.new) }
@@ -46,7 +46,7 @@ fn element_ends<S: Source, K: Sink, H: Hub>(
     out: &mut K,
     hub: &mut H,
 ) -> Result<ElementEnd, Stop>
-    ensures ends { ElementEnds most_bytes fe ce turns result (S.left input.old) (S.left input.new) (H.held hub.old) (H.held hub.new) (K.written out.old) (K.written out.new) }
+    ensures ends { ElementEnds most_bytes fe ce turns (S.faults input.old, S.faults input.new) (H.faults hub.old, H.faults hub.new) result (S.left input.old) (S.left input.new) (H.held hub.old) (H.held hub.new) (K.written out.old) (K.written out.new) }
     ensures unflushed { K.flushed out.new ≡ K.flushed out.old }
     ensures source { EndCount is_unread result (S.faults input.old) (S.faults input.new) }
     ensures hub { EndCount is_unserved result (H.faults hub.old) (H.faults hub.new) }
@@ -71,7 +71,7 @@ fn declared_element<K: Sink, H: Hub>(
     out: &mut K,
     hub: &mut H,
 ) -> Result<ElementEnd, Stop>
-    ensures ends { DocumentEnds fe ce turns document.now result (H.held hub.old) (H.held hub.new) (K.written out.old) (K.written out.new) }
+    ensures ends { DocumentEnds fe ce turns document.now (H.faults hub.old, H.faults hub.new) result (H.held hub.old) (H.held hub.new) (K.written out.old) (K.written out.new) }
     ensures unflushed { K.flushed out.new ≡ K.flushed out.old }
     ensures hub { EndCount is_unserved result (H.faults hub.old) (H.faults hub.new) }
     ensures sink { SinkCount result (K.faults out.old) (K.faults out.new) }

@@ -16,9 +16,9 @@ ghost use Rattle.fc_serving.specs.declared.end.ElementEnd.{ElementEnd};
 /// A known input and a known hub have one ending of `element` of those in which nothing failed: the hub has no more
 /// events, so many were taken as are to be taken, or the input means no library or is too long.
 pub fn element_ends_once()
-    ensures { (e f : ElementEnd) (limit id ce turns : ℕ) (bytes : List ℕ) (held : Held) (l k : Option (List ℕ)) (new other : Option Held) (o p n m : Option (List ℕ))
-        → IsOutcome e → IsOutcome f → ElementEnds limit id ce turns (Ok e) (Some bytes) l (Some held) new o n
-        → ElementEnds limit id ce turns (Ok f) (Some bytes) k (Some held) other p m → e ≡ f }
+    ensures { (e f : ElementEnd) (limit id ce turns : ℕ) (bytes : List ℕ) (held : Held) (l k : Option (List ℕ)) (new other : Option Held) (o p n m : Option (List ℕ)) (read reads served serves : ℕ × ℕ)
+        → IsOutcome e → IsOutcome f → ElementEnds limit id ce turns read served (Ok e) (Some bytes) l (Some held) new o n
+        → ElementEnds limit id ce turns reads serves (Ok f) (Some bytes) k (Some held) other p m → e ≡ f }
 {}
 
 /// Bytes of a peer that come in two pieces make the same of a node as the whole, wherever they are cut: the same acts in
@@ -31,9 +31,9 @@ pub fn bytes_may_be_cut()
     ensures run { (n : NodeState) (before after : List HubEvent) (peer : ℕ) (front back : List ℕ)
         → MakeTheSame n (before ++ Bytes peer front ∷ Bytes peer back ∷ after) (before ++ Bytes peer (front ++ back) ∷ after) }
     ensures status { (limit id ce turns : ℕ) (document : List ℕ) (before after : List HubEvent) (peer : ℕ) (front back : List ℕ) (taken : ℕ) (done : List (ℕ × Act)) (one other : Result ElementEnd Stop)
-        (l k : Option (List ℕ)) (first second : Option Held) (old : List ℕ) (new renewed : Option (List ℕ)) → IsRunOut one → IsRunOut other
-        → ElementEnds limit id ce turns one (Some document) l (Some (holds (before ++ Bytes peer front ∷ Bytes peer back ∷ after) taken done)) first (Some old) new
-        → ElementEnds limit id ce turns other (Some document) k (Some (holds (before ++ Bytes peer (front ++ back) ∷ after) taken done)) second (Some old) renewed
+        (l k : Option (List ℕ)) (first second : Option Held) (old : List ℕ) (new renewed : Option (List ℕ)) (read reads served serves : ℕ × ℕ) → IsRunOut one → IsRunOut other
+        → ElementEnds limit id ce turns read served one (Some document) l (Some (holds (before ++ Bytes peer front ∷ Bytes peer back ∷ after) taken done)) first (Some old) new
+        → ElementEnds limit id ce turns reads serves other (Some document) k (Some (holds (before ++ Bytes peer (front ++ back) ∷ after) taken done)) second (Some old) renewed
         → EndAlike one other first second new renewed }
 {}
 

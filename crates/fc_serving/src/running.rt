@@ -41,7 +41,7 @@ pub(crate) fn run_element<K: Sink, H: Hub>(
 ) -> Result<ElementEnd, Stop>
     requires absent { list_all is_own library ≡ true }
     requires known { AreKnown library instances }
-    ensures ends { RunEnds (first_node fe ce library instances) turns result (H.held hub.old) (H.held hub.new) (K.written out.old) (K.written out.new) }
+    ensures ends { RunEnds (first_node fe ce library instances) turns (H.faults hub.old, H.faults hub.new) result (H.held hub.old) (H.held hub.new) (K.written out.old) (K.written out.new) }
     ensures unflushed { K.flushed out.new ≡ K.flushed out.old }
     ensures hub { EndCount is_unserved result (H.faults hub.old) (H.faults hub.new) }
     ensures sink { SinkCount result (K.faults out.old) (K.faults out.new) }

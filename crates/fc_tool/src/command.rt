@@ -94,12 +94,12 @@ pub fn run<S: Source, K: Sink, H: Hub, R: Rounds>(
     ensures element { (fe ce : ℕ) (address : List ℕ) (connections turns : ℕ)
         → command_of (map string_bytes words.now) ≡ Some (meant.Element fe ce address connections turns)
         → ElementRuns most_bytes fe ce turns result (S.left input.old) (S.left input.new) (H.held hub.old) (H.held hub.new) (K.written out.old) (K.written out.new)
-        (Rose (S.faults input.old) (S.faults input.new)) (Rose (K.faults out.old) (K.faults out.new)) (Rose (H.faults hub.old) (H.faults hub.new)) }
+        (S.faults input.old, S.faults input.new) (K.faults out.old, K.faults out.new) (H.faults hub.old, H.faults hub.new) }
 
     ensures control { (ce : ℕ) (rounds_file : List ℕ) (connections turns : ℕ) (addresses : List (List ℕ))
         → command_of (map string_bytes words.now) ≡ Some (meant.Control ce rounds_file connections turns addresses)
         → ControlRuns most_bytes (asked_for ce turns addresses) result (S.left input.old) (S.left input.new) (R.given rounds.old) (R.given rounds.new) (H.held hub.old) (H.held hub.new) (K.written out.old) (K.written out.new)
-        (Rose (S.faults input.old) (S.faults input.new)) (Rose (K.faults out.old) (K.faults out.new)) (Rose (H.faults hub.old) (H.faults hub.new)) (Rose (R.faults rounds.old) (R.faults rounds.new)) }
+        (S.faults input.old, S.faults input.new) (K.faults out.old, K.faults out.new) (H.faults hub.old, H.faults hub.new) (R.faults rounds.old, R.faults rounds.new) }
 
     // Only `element` and `control` use the hub, and only `control` the rounds, of which it takes one number at most.
     ensures hub { ((fe ce : ℕ) (address : List ℕ) (connections turns : ℕ)

@@ -7,7 +7,7 @@ use Rattle.fc_serving.proofs.Ending.{element_finished}
 use Rattle.fc_serving.proofs.command.element.Goals as goal
 
 pub returns-in-Ok-clause-ends : goal.returns-in-Ok-clause-ends
-returns-in-Ok-clause-ends g c = element_finished c.in-Ok.end c.finished.result _ _ _ _ _ _ _ _ _ _ _ c.in-Ok.ensures.ends c.finished.ensures.end c.finished.ensures.same
+returns-in-Ok-clause-ends g c = element_finished c.in-Ok.end c.finished.result _ _ _ _ _ _ _ _ _ _ _ _ _ c.in-Ok.ensures.ends c.finished.ensures.end c.finished.ensures.same
 
 pub returns-in-Ok-clause-source : goal.returns-in-Ok-clause-source
 returns-in-Ok-clause-source g c = finished_count ElementEnd is_unread c.in-Ok.end c.finished.result _ _ c.in-Ok.ensures.source c.finished.ensures.end
