@@ -2,7 +2,7 @@
 use Rattle.std.proofs.Common.{◌≡◌, ℕ, Bool, true, false, if◌then◌else◌, List, [], ◌∷◌, ◌++◌, map, refl, sym, subst}
 use Rattle.std.specs.FinMap.{entries}
 use Rattle.std.specs.List.{flat_map}
-use Rattle.fc_answering.specs.Answering.{AreNotices}
+use Rattle.fc_querying.specs.Answering.{AreNotices}
 use Rattle.fc_assoc.specs.Associations.{AssociationMap}
 use Rattle.fc_assoc.specs.declared.heard.Heard.{Heard}
 use Rattle.fc_element.specs.ElementMachine.{answer_to, beating, beats_of, down_outs, has_lost, heartbeat_of, id_of, is_due, ledger_of, moved_on, setup_of, step, watched}

@@ -2,8 +2,8 @@
 use Rattle.std.proofs.Common.{◌≡◌, ◌≢◌, ◌⊎◌, ℕ, List, [], Option, Some, None, refl, sym, ap, ◌∙◌, subst, inl, inr}
 use Rattle.std.specs.List.{flat_map}
 use Rattle.fc_abiding.specs.Abiding.{IsNamed}
-use Rattle.fc_answering.proofs.Answering.{goes}
-use Rattle.fc_answering.specs.Answering.{Answers, AreSame, IsReply, codes_in}
+use Rattle.fc_querying.proofs.Answering.{goes}
+use Rattle.fc_querying.specs.Answering.{Answers, AreSame, IsReply, codes_in}
 use Rattle.fc_asks.specs.Codes.{code_of, select_codes}
 use Rattle.fc_msg.specs.declared.message.Message.{Message}
 use Rattle.fc_msg.specs.declared.message.MsgBody.{MsgBody}

@@ -2,8 +2,8 @@
 use Rattle.std.specs.Prelude.{◌≡◌, ◌≢◌, ℕ, Bool, true, false, List, [], ◌∷◌, ◌++◌, Option, Some, None}
 use Rattle.std.specs.List.{AllByRecursion, flat_map, list_any}
 use Rattle.fc_abiding.specs.Abiding.{seen}
-use Rattle.fc_answering.specs.Answering.{IsReply, heard_of as says_at, is_by_store}
-use Rattle.fc_answering.specs.Mastership.{HasMastership}
+use Rattle.fc_querying.specs.Answering.{IsReply, heard_of as says_at, is_by_store}
+use Rattle.fc_querying.specs.Mastership.{HasMastership}
 use Rattle.fc_asks.specs.Codes.{select_codes}
 use Rattle.fc_asks.specs.Requests.{request_of}
 use Rattle.fc_asks.specs.declared.life.Life.{Life}

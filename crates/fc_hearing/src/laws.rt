@@ -2,7 +2,7 @@
 ghost use Rattle.std.specs.Prelude.{◌≡◌, ℕ, List, Option, Some, true};
 ghost use Rattle.std.specs.List.{list_all};
 ghost use Rattle.fc_abiding.specs.Abiding.{IsNamed};
-ghost use Rattle.fc_answering.specs.Answering.{Answers, AreNotices};
+ghost use Rattle.fc_querying.specs.Answering.{Answers, AreNotices};
 ghost use Rattle.fc_assoc.specs.Associations.{AssociationMap};
 ghost use Rattle.fc_base.specs.Ids.{Txn};
 ghost use Rattle.fc_element.specs.ElementMachine.{answer_to as heartbeat_answer, answer_with, beats_of, down_outs, leaving, setup_of, step};

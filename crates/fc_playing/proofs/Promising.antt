@@ -5,7 +5,7 @@ use Rattle.fc_documents.specs.declared.transaction.PlanTxn.{PlanTxn}
 use Rattle.fc_endings.specs.declared.stops.Stop.{Stop}
 use Rattle.fc_endings.specs.declared.stops.Stop.TheVariants.{NoMemory, WriteFault}
 use Rattle.fc_endings.proofs.Looking.{all_read, front_read}
-use Rattle.fc_following.proofs.Runs.{agrees, fenced, folds_all, has_one_plan, is_ready, settles, settles_once}
+use Rattle.fc_rounds.proofs.Runs.{agrees, fenced, folds_all, has_one_plan, is_ready, settles, settles_once}
 use Rattle.fc_library.specs.declared.fault.LibFault.{LibFault}
 use Rattle.fc_scripts.specs.Kept.{CanBeSaid}
 use Rattle.fc_scripts.specs.Scripts.{Scripted, script_of, with_instances}

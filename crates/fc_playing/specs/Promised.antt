@@ -1,6 +1,6 @@
 -- The promise of a network element, of a script that is played. This profile's own.
 use Rattle.std.specs.Prelude.{◌≡◌, ◌++◌, ℕ, List}
-use Rattle.fc_following.specs.Promise.{HadOnePlan, HasAgreed, HasFolded, HasSettled, HasSettledOnce, IsFenced, WasReady}
+use Rattle.fc_rounds.specs.Promise.{HadOnePlan, HasAgreed, HasFolded, HasSettled, HasSettledOnce, IsFenced, WasReady}
 use Rattle.fc_scripts.specs.Scripts.{Scripted}
 use Rattle.fc_steps.specs.declared.step.Step.{Step}
 use Rattle.fc_world.specs.Played.{Played, setting_of}

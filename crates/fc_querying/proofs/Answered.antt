@@ -1,7 +1,7 @@
 -- What an element answers to the questions of a master, and what the master reads.
 use Rattle.std.proofs.Common.{◌≡◌, ℕ, ◌^◌, ◌<◌, ◌==◌, ◌&&◌, Bool, true, if◌then◌else◌, List, [], ◌∷◌, map, Option, Some, None, option_and_then, Result, Ok, refl, sym, ap, ap₂, ◌∙◌, arith, rules}
 use Rattle.std.specs.List.{filter, flat_map}
-use Rattle.fc_answering.specs.Mastership.{HasMastership}
+use Rattle.fc_querying.specs.Mastership.{HasMastership}
 use Rattle.fc_asks.specs.Holdings.{entry_read, held_by, held_read, seen_in, seen_of}
 use Rattle.fc_asks.specs.Queries.{epoch_in, full_layer, full_of, held_bodies, held_meaning, holds, query_meaning, record_bodies, record_in, record_layer, record_meaning, tells}
 use Rattle.fc_base.specs.Ids.{Txn}

@@ -1,3 +1,6 @@
+pub mod Answering
+pub mod Lasting
+pub mod Written
 pub mod Answered
 pub mod Filling
 pub mod Finding

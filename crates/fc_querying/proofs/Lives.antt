@@ -5,8 +5,8 @@ use Rattle.fc_abiding.proofs.Naming.{named_stay, new_named}
 use Rattle.fc_abiding.specs.Abiding.{IsNamed}
 use Rattle.fc_abiding.specs.Runs.{Came, Life, life_from, life_of}
 use Rattle.fc_agreement.proofs.OneElement.{distinct_law, limited_law}
-use Rattle.fc_answering.proofs.Written.{opened_has}
-use Rattle.fc_answering.specs.Mastership.{HasMastership}
+use Rattle.fc_querying.proofs.Written.{opened_has}
+use Rattle.fc_querying.specs.Mastership.{HasMastership}
 use Rattle.fc_blocks.specs.Opening.{opened_store}
 use Rattle.fc_element.specs.ElementState as elements
 use Rattle.fc_element.specs.Runs.{taken}

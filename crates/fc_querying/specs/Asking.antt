@@ -3,7 +3,7 @@ use Rattle.std.specs.Prelude.{◌≡◌, ◌<◌, ◌≤◌, ◌^◌, ℕ, true,
 use Rattle.std.specs.FinMap.{contains_key}
 use Rattle.std.specs.List.{AllByRecursion}
 use Rattle.fc_abiding.specs.Abiding.{seen}
-use Rattle.fc_answering.specs.Mastership.{HasMastership}
+use Rattle.fc_querying.specs.Mastership.{HasMastership}
 use Rattle.fc_asks.specs.Queries.{query_meaning}
 use Rattle.fc_asks.specs.Requests.{asks_held, asks_record, request_of}
 use Rattle.fc_asks.specs.declared.life.Life.{Life}

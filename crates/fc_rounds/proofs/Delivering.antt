@@ -6,7 +6,7 @@ use Rattle.std.specs.List.{list_all}
 use Rattle.fc_abiding.specs.Abiding.{is_strange, rest_code}
 use Rattle.fc_abiding.specs.Responses.{telling}
 use Rattle.fc_agreement.specs.CleanRound.{Smooth}
-use Rattle.fc_answering.proofs.Answering.{goes}
+use Rattle.fc_querying.proofs.Answering.{goes}
 use Rattle.fc_element.specs.ElementMachine.{Turn, all_get, id_of, is_associated, is_ce, is_own, step, taking, turn}
 use Rattle.fc_element.specs.ElementState.{ElementState}
 use Rattle.fc_element.specs.declared.input.ElIn.TheVariants as el_in
@@ -41,14 +41,14 @@ use Rattle.fc_world.specs.declared.nodes.Node.{Node}
 use Rattle.fc_world.specs.declared.sent.Parcel.{Parcel}
 use Rattle.fc_world.specs.declared.sent.Parcel.TheVariants.{Upward, Downward}
 use Rattle.fc_world.specs.declared.setting.Setting.{Setting}
-use Rattle.fc_following.specs.Following.{AsksConfig, AsksSo, Follows, GoesDownAs, IsController, IsElement, IsRequest, IsSent, core_in}
-use Rattle.fc_following.specs.Networks.{ce_of}
-use Rattle.fc_following.proofs.Elements.{Delivered, Turned, as_chosen, config_delivered, heard_so, lasting, other_turned, query_delivered, taken_turned}
-use Rattle.fc_following.proofs.Happens.{controller_follows, element_follows}
-use Rattle.fc_following.proofs.Masters.{SpeaksAs, hears_as}
-use Rattle.fc_following.proofs.Nodes.{Found}
-use Rattle.fc_following.proofs.Pairs.{BothOrNone, pair_at}
-use Rattle.fc_following.proofs.Steps.{ce_is, facts_are, it, life, master_is, ruled, sender_is, takes_is, to_master_is}
+use Rattle.fc_rounds.specs.Following.{AsksConfig, AsksSo, Follows, GoesDownAs, IsController, IsElement, IsRequest, IsSent, core_in}
+use Rattle.fc_rounds.specs.Networks.{ce_of}
+use Rattle.fc_rounds.proofs.Elements.{Delivered, Turned, as_chosen, config_delivered, heard_so, lasting, other_turned, query_delivered, taken_turned}
+use Rattle.fc_rounds.proofs.Happens.{controller_follows, element_follows}
+use Rattle.fc_rounds.proofs.Masters.{SpeaksAs, hears_as}
+use Rattle.fc_rounds.proofs.Nodes.{Found}
+use Rattle.fc_rounds.proofs.Pairs.{BothOrNone, pair_at}
+use Rattle.fc_rounds.proofs.Steps.{ce_is, facts_are, it, life, master_is, ruled, sender_is, takes_is, to_master_is}
 use Rattle.fc_rounds.proofs.Spelling.{IsAnswered}
 
 -- a network element, with what has happened, and a world of the protocol that it follows

@@ -5,8 +5,8 @@ use Rattle.fc_agreement.proofs.RoundRuns.{Once, arrived, passed as going_passed}
 use Rattle.fc_asks.specs.Plans.{changes_of, numbered as numbered_of}
 use Rattle.fc_asks.specs.declared.life.Life.{Life}
 use Rattle.fc_element.specs.ElementMachine.{is_ce}
-use Rattle.fc_following.specs.Following.{IsSent}
-use Rattle.fc_following.specs.Networks.{ce_of}
+use Rattle.fc_rounds.specs.Following.{IsSent}
+use Rattle.fc_rounds.specs.Networks.{ce_of}
 use Rattle.fc_jobs.specs.Plans.{changes_in, scopes_in}
 use Rattle.fc_plans.specs.declared.plan.Part.{Part}
 use Rattle.fc_protocol.specs.Collections.{among}

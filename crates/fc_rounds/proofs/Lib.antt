@@ -1,3 +1,15 @@
+pub mod Speaking
+pub mod Pairs
+pub mod Nodes
+pub mod Controllers
+pub mod Facts
+pub mod Lasting
+pub mod Elements
+pub mod Requests
+pub mod Masters
+pub mod Happens
+pub mod Steps
+pub mod Runs
 pub mod Lists
 pub mod Reading
 pub mod Counting

@@ -2,7 +2,7 @@
 use Rattle.std.proofs.Common.{[], ◌≡◌, ℕ, zero, suc, ◌+◌, List, ◌∷◌, ◌++◌, length, slice_get, Some, refl, ap, subst, arith}
 use Rattle.std.specs.List.{AllByRecursion}
 use Rattle.fc_store.specs.Stores.{Pairwise}
-use Rattle.fc_following.proofs.Pairs.{BothOrNone, pair_at}
+use Rattle.fc_rounds.proofs.Pairs.{BothOrNone, pair_at}
 
 pub cancel : {A : Type 0} (xs ys zs : List A) → xs ++ ys ≡ xs ++ zs → ys ≡ zs
 cancel [] ys zs e = e

@@ -10,7 +10,7 @@ use Rattle.fc_asks.specs.Plans.{changes_of, numbered as numbered_of}
 use Rattle.fc_asks.specs.declared.life.Life.{Life}
 use Rattle.fc_base.specs.Ids.{Txn}
 use Rattle.fc_element.specs.ElementMachine.{is_ce}
-use Rattle.fc_following.specs.Networks.{ce_of}
+use Rattle.fc_rounds.specs.Networks.{ce_of}
 use Rattle.fc_jobs.specs.Plans.{changes_in, scopes_in}
 use Rattle.fc_plans.specs.declared.plan.Part.{Part}
 use Rattle.fc_protocol.proofs.Basics.{both, cond_false, cond_true, and_true}

@@ -14,12 +14,12 @@ use Rattle.fc_base.specs.Ids.{Txn}
 use Rattle.fc_element.specs.ElementMachine.{Turn, id_of, is_ce, step}
 use Rattle.fc_element.specs.ElementState.{ElementState}
 use Rattle.fc_element.specs.declared.input.ElIn.TheVariants as el_in
-use Rattle.fc_following.proofs.Elements.{same_id}
-use Rattle.fc_following.proofs.Nodes.{Found}
-use Rattle.fc_following.proofs.Pairs.{pairs_more}
-use Rattle.fc_following.proofs.Steps.{it, life, master_is, ruled, sender_is}
-use Rattle.fc_following.specs.Following.{AsksConfig, AsksSo, GoesDownAs, GoesUpAs, IsElement, IsLife, IsRequest, IsSent}
-use Rattle.fc_following.specs.Networks.{ce_of}
+use Rattle.fc_rounds.proofs.Elements.{same_id}
+use Rattle.fc_rounds.proofs.Nodes.{Found}
+use Rattle.fc_rounds.proofs.Pairs.{pairs_more}
+use Rattle.fc_rounds.proofs.Steps.{it, life, master_is, ruled, sender_is}
+use Rattle.fc_rounds.specs.Following.{AsksConfig, AsksSo, GoesDownAs, GoesUpAs, IsElement, IsLife, IsRequest, IsSent}
+use Rattle.fc_rounds.specs.Networks.{ce_of}
 use Rattle.fc_jobs.specs.Plans.{changes_in, scopes_in}
 use Rattle.fc_jobs.specs.Sending.{spelled}
 use Rattle.fc_master.specs.Steps.{said as said_by}

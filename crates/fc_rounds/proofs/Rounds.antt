@@ -16,9 +16,9 @@ use Rattle.fc_base.specs.Ids.{Txn, IsCe, IsFe}
 use Rattle.fc_element.specs.ElementMachine.{is_ce}
 use Rattle.fc_element.specs.ElementState.{ElementState}
 use Rattle.fc_exec.specs.declared.operations.Operation.{Operation}
-use Rattle.fc_following.proofs.Steps.{ce_is, it, life, master_is, ruled, sender_is, control_found, planned_found}
-use Rattle.fc_following.specs.Following.{Follows, IsElement, IsLife, IsSent, GoesOn, IsController}
-use Rattle.fc_following.specs.Networks.{ce_of, network_of}
+use Rattle.fc_rounds.proofs.Steps.{ce_is, it, life, master_is, ruled, sender_is, control_found, planned_found}
+use Rattle.fc_rounds.specs.Following.{Follows, IsElement, IsLife, IsSent, GoesOn, IsController}
+use Rattle.fc_rounds.specs.Networks.{ce_of, network_of}
 use Rattle.fc_machine.specs.Trace.{Fact, bare_facts}
 use Rattle.fc_plans.specs.declared.plan.Part.{Part}
 use Rattle.fc_protocol.specs.Collections.{among, or_next, put}
@@ -54,9 +54,9 @@ use Rattle.fc_documents.specs.declared.transaction.PlanTxn.{PlanTxn}
 use Rattle.fc_exec.specs.Operations.{applied, operations, place_of}
 use Rattle.fc_folding.proofs.Lives.{At as AtLives, life_at}
 use Rattle.fc_folding.specs.Folding.{settled_now}
-use Rattle.fc_following.proofs.Happens.{controller_follows}
-use Rattle.fc_following.proofs.Masters.{SpeaksAs, begins_as, parts_words, scopes_narrow, scopes_words}
-use Rattle.fc_following.proofs.Runs.{goes}
+use Rattle.fc_rounds.proofs.Happens.{controller_follows}
+use Rattle.fc_rounds.proofs.Masters.{SpeaksAs, begins_as, parts_words, scopes_narrow, scopes_words}
+use Rattle.fc_rounds.proofs.Runs.{goes}
 use Rattle.fc_headline.specs.CleanRound.{changes_to}
 use Rattle.fc_headline.specs.Folds.{Clean}
 use Rattle.fc_lfbs.specs.BuiltIns.{built_in}

@@ -13,8 +13,8 @@ use Rattle.fc_element.specs.ElementState.{ElementState}
 use Rattle.fc_exec.specs.Operations.{applied, operations, place_of}
 use Rattle.fc_exec.specs.declared.operations.Operation.{Operation}
 use Rattle.fc_folding.specs.Folding.{is_control}
-use Rattle.fc_following.specs.Following.{AsksConfig, IsRequest}
-use Rattle.fc_following.specs.Networks.{ce_of}
+use Rattle.fc_rounds.specs.Following.{AsksConfig, IsRequest}
+use Rattle.fc_rounds.specs.Networks.{ce_of}
 use Rattle.fc_headline.proofs.Served.{Serves}
 use Rattle.fc_headline.specs.CleanRound.{changes_to}
 use Rattle.fc_headline.specs.Folds.{Clean}

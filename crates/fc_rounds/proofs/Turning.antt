@@ -6,7 +6,7 @@ use Rattle.fc_element.specs.ElementMachine.{Turn, all_get, hearing_if, id_of, is
 use Rattle.fc_element.specs.ElementState.{ElementState}
 use Rattle.fc_element.specs.declared.input.ElIn.TheVariants.{Arrived}
 use Rattle.fc_events.specs.declared.subscriptions.Notice.{Notice}
-use Rattle.fc_following.proofs.Elements.{as_chosen}
+use Rattle.fc_rounds.proofs.Elements.{as_chosen}
 use Rattle.fc_headline.proofs.Served.{still_there}
 use Rattle.fc_msg.specs.Messages.{message_fits}
 use Rattle.fc_msg.specs.declared.message.Message.{Message}

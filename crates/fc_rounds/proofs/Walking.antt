@@ -7,8 +7,8 @@ use Rattle.fc_agreement.specs.CleanRound.{is_notice as is_bare_notice}
 use Rattle.fc_asks.specs.Requests.{request_of}
 use Rattle.fc_asks.specs.declared.life.Life.{Life}
 use Rattle.fc_element.specs.ElementState.{ElementState}
-use Rattle.fc_following.proofs.Controllers as controls
-use Rattle.fc_following.proofs.Steps.{it}
+use Rattle.fc_rounds.proofs.Controllers as controls
+use Rattle.fc_rounds.proofs.Steps.{it}
 use Rattle.fc_jobs.specs.Sending.{spelled, spelled_to}
 use Rattle.fc_msg.specs.declared.message.Message.{Message}
 use Rattle.fc_numbering.specs.Numbering.{AreNumbered, SaysNumbers}

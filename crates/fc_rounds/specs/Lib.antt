@@ -1,1 +1,4 @@
+pub mod Networks
+pub mod Following
+pub mod Promise
 pub mod CleanRound

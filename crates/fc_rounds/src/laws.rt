@@ -1,15 +1,35 @@
-// The clean round.
-ghost use Rattle.std.specs.Prelude.{ℕ, List};
-ghost use Rattle.fc_rounds.specs.CleanRound.{CleanRounds};
+// The promise.
+ghost use Rattle.std.specs.Prelude.{◌≡◌, ℕ, List};
+ghost use Rattle.fc_agreement.specs.Agreement.{Agree, OnePlan, Ready, SettleOnce};
+ghost use Rattle.fc_rounds.specs.Following.{GoesOn};
+ghost use Rattle.fc_rounds.specs.Networks.{network_of};
+ghost use Rattle.fc_rounds.specs.Promise.{AllFolded, Fenced, Settles};
+ghost use Rattle.fc_machine.specs.Trace.{bare_facts};
+ghost use Rattle.fc_protocol.specs.WorldSteps as network;
 ghost use Rattle.fc_steps.specs.declared.step.Step.{Step as Steps};
 ghost use Rattle.fc_world.specs.Played.{AreMade};
 ghost use Rattle.fc_world.specs.Settings.{IsNetwork};
-ghost use Rattle.fc_world.specs.Worlds.{first_world};
+ghost use Rattle.fc_world.specs.Worlds.{WorldState, first_world};
+ghost use Rattle.fc_world.specs.WorldSteps.{facts, run};
 ghost use Rattle.fc_world.specs.declared.setting.Setting.{Setting as Settings};
 
-/// In every network element, whatever has been done there: where a control element may begin a transaction, each participant is idle for it and can do
-/// its part, and then each message that is sent from there on is delivered once, in the order of their numbers, until all are delivered, every participant
-/// completes the transaction, and the report on the control element says so.
-pub fn clean_rounds_complete()
-    ensures { (s : Settings) (done : List (ℕ × Steps)) → IsNetwork s → AreMade s.transactions (first_world s) done → CleanRounds s done }
+/// Whatever steps are made in a network element, it is a run of the protocol's network: its elements, the lives of its control elements and all
+/// messages are those of that network, and so is all that has happened.
+pub fn networks_follow_the_protocol()
+    ensures { (s : Settings) (done : List (ℕ × Steps)) → IsNetwork s → AreMade s.transactions (first_world s) done
+        → GoesOn s (run s.transactions (first_world s) done) (facts s.transactions (first_world s) done) (network.first_world (network_of s)) }
+{}
+
+/// So at every moment of every script, however messages are lost, repeated or reordered and control elements and elements stop and return: no two elements
+/// settle one transaction differently, and none settles one twice; one is completed only where every participant had prepared it, and all opened it with
+/// the same participants; each element's settled configuration is the fold of what it has completed alone; a Config of a life that an element has
+/// replaced changes nothing there; and what a control element counts as settled was settled so at every participant.
+pub fn networks_keep_the_promise()
+    ensures agree { (s : Settings) (done : List (ℕ × Steps)) → IsNetwork s → AreMade s.transactions (first_world s) done → Agree (bare_facts (facts s.transactions (first_world s) done)) }
+    ensures once { (s : Settings) (done : List (ℕ × Steps)) → IsNetwork s → AreMade s.transactions (first_world s) done → SettleOnce (bare_facts (facts s.transactions (first_world s) done)) }
+    ensures ready { (s : Settings) (done : List (ℕ × Steps)) → IsNetwork s → AreMade s.transactions (first_world s) done → Ready (bare_facts (facts s.transactions (first_world s) done)) }
+    ensures one_plan { (s : Settings) (done : List (ℕ × Steps)) → IsNetwork s → AreMade s.transactions (first_world s) done → OnePlan (bare_facts (facts s.transactions (first_world s) done)) }
+    ensures folded { (s : Settings) (done : List (ℕ × Steps)) → IsNetwork s → AreMade s.transactions (first_world s) done → AllFolded s (run s.transactions (first_world s) done) (facts s.transactions (first_world s) done) }
+    ensures fenced { (w : WorldState) → Fenced w }
+    ensures settled { (s : Settings) (done : List (ℕ × Steps)) → IsNetwork s → AreMade s.transactions (first_world s) done → Settles (run s.transactions (first_world s) done) (facts s.transactions (first_world s) done) }
 {}

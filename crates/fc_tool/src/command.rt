@@ -7,7 +7,7 @@ ghost use Rattle.fc_words.specs.declared.commands.Command.TheVariants as meant;
 ghost use Rattle.fc_endings.specs.declared.stops.Stop.{Stop};
 ghost use Rattle.fc_controlling.specs.ControlRun.{control_status};
 ghost use Rattle.fc_controlling.specs.Runs.{ControlRuns};
-ghost use Rattle.fc_following.specs.Promise.{HadOnePlan, HasAgreed, HasFolded, HasSettled, HasSettledOnce, IsFenced, WasReady};
+ghost use Rattle.fc_rounds.specs.Promise.{HadOnePlan, HasAgreed, HasFolded, HasSettled, HasSettledOnce, IsFenced, WasReady};
 ghost use Rattle.fc_generating.specs.Runs.{GenRuns, gen_status};
 ghost use Rattle.fc_playing.specs.Promised.{AtEachStep};
 ghost use Rattle.fc_playing.specs.Runs.{PlayRuns, WasPlayed};

@@ -1,3 +1,0 @@
-pub mod Networks
-pub mod Following
-pub mod Promise

@@ -1,5 +1,0 @@
-use Rattle.fc_rounds.proofs.Rounds.{clean_rounds}
-use Rattle.fc_rounds.proofs.laws.clean_rounds_complete.Goals as goal
-
-pub returns : goal.returns
-returns c = clean_rounds
