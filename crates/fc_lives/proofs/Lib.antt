@@ -1,1 +1,12 @@
 pub mod Lives
+pub mod Sights
+pub mod Leaving
+pub mod Beside
+pub mod Evaluating
+pub mod Setting
+pub mod Seeing
+pub mod Props
+pub mod Phases
+pub mod Types
+pub mod Sound
+pub mod Inputs

@@ -1,6 +1,7 @@
 -- The promise of a network element, of a script that is played. This profile's own.
 use Rattle.std.specs.Prelude.{◌≡◌, ◌++◌, ℕ, List}
-use Rattle.fc_rounds.specs.Promise.{HadOnePlan, HasAgreed, HasFolded, HasSettled, HasSettledOnce, IsFenced, WasReady}
+use Rattle.fc_rounds.specs.Lines.{HasOneWord, HasReported}
+use Rattle.fc_rounds.specs.Promise.{HadOnePlan, HasAgreed, HasFolded, HasSettled, HasSettledOnce, HasTold, IsFenced, WasReady}
 use Rattle.fc_scripts.specs.Scripts.{Scripted}
 use Rattle.fc_steps.specs.declared.step.Step.{Step}
 use Rattle.fc_world.specs.Played.{Played, setting_of}
@@ -15,8 +16,9 @@ AtEachStep Holds s =
 
 -- At every moment of a script the promise is kept: no two elements have settled one transaction differently, and none has settled one twice; before one
 -- was completed every participant had prepared it, and all had opened it with the same participants; what is settled at each element is the fold of what
--- it has completed alone; a Config of a life that an element has replaced changes nothing there; and what a control element counts as settled was
--- settled so at every participant.
+-- it has completed alone; a Config of a life that an element has replaced changes nothing there; what a control element counts as settled was
+-- settled so at every participant; the records of each element tell what was settled there, and so does the report,
+-- in which no line says otherwise of a transaction than another.
 pub record KeepsPromise (s : Scripted) : Type 0 where
   pub agree : AtEachStep HasAgreed s
   pub once : AtEachStep HasSettledOnce s
@@ -25,3 +27,6 @@ pub record KeepsPromise (s : Scripted) : Type 0 where
   pub folded : AtEachStep HasFolded s
   pub fenced : AtEachStep IsFenced s
   pub settled : AtEachStep HasSettled s
+  pub told : AtEachStep HasTold s
+  pub reported : AtEachStep HasReported s
+  pub one_word : AtEachStep HasOneWord s

@@ -10,6 +10,10 @@ pub mod Masters
 pub mod Happens
 pub mod Steps
 pub mod Runs
+pub mod Telling
+pub mod Lines
+pub mod Reports
+pub mod Participants
 pub mod Lists
 pub mod Reading
 pub mod Counting

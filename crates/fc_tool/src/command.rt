@@ -1,5 +1,6 @@
 // The top call of the program.
 ghost use Rattle.std.specs.Prelude.{◌≡◌, ◌≢◌, ◌⊎◌, ◌+◌, ◌-◌, ◌^◌, ◌<◌, ◌≤◌, ℕ, List, None, Some, Ok, Result, map, string_bytes};
+ghost use Rattle.std.specs.Io.KnownBytes.{Appends};
 ghost use Rattle.fc_base.specs.Causes.{Rose};
 ghost use Rattle.fc_base.specs.Content.{IsFlushed};
 ghost use Rattle.fc_words.specs.Commands.{command_of};
@@ -7,7 +8,8 @@ ghost use Rattle.fc_words.specs.declared.commands.Command.TheVariants as meant;
 ghost use Rattle.fc_endings.specs.declared.stops.Stop.{Stop};
 ghost use Rattle.fc_controlling.specs.ControlRun.{control_status};
 ghost use Rattle.fc_controlling.specs.Runs.{ControlRuns};
-ghost use Rattle.fc_rounds.specs.Promise.{HadOnePlan, HasAgreed, HasFolded, HasSettled, HasSettledOnce, IsFenced, WasReady};
+ghost use Rattle.fc_rounds.specs.Lines.{HasOneWord, HasReported, OneWord};
+ghost use Rattle.fc_rounds.specs.Promise.{HadOnePlan, HasAgreed, HasFolded, HasSettled, HasSettledOnce, HasTold, IsFenced, WasReady};
 ghost use Rattle.fc_generating.specs.Runs.{GenRuns, gen_status};
 ghost use Rattle.fc_playing.specs.Promised.{AtEachStep};
 ghost use Rattle.fc_playing.specs.Runs.{PlayRuns, WasPlayed};
@@ -68,10 +70,12 @@ pub fn run<S: Source, K: Sink, H: Hub, R: Rounds>(
 
     // A script that was played keeps the promise at every moment of it: its elements agree on each transaction, and each settles it once; they complete only
     // what every participant had prepared, and all had opened with the same participants; what is settled at each of them is the fold of what it has
-    // completed; no Config of a life that it has replaced changes it; and what a control element counts as settled was settled so. After status 0 that is
-    // from the first step to the last, all of which were made. After status 5 it is up to the step that can't be made; where the document means no script,
-    // nothing was played. After status 3 it is one or the other, where the document could be read and is no longer than is looked at. After every other
-    // status nothing is said of it: a document that can't be read or is too long is not played, and one that ends for want of memory is cut short.
+    // completed; no Config of a life that it has replaced changes it; what a control element counts as settled was settled so; its records tell what was
+    // settled there, so far as it has not forgotten; and so does the report, so that no transaction is completed in one line of it and aborted in another.
+    // After status 0 that is from the first step to the last, all of which were made. After status 5 it is up to the step that can't be made; where the
+    // document means no script, nothing was played. After status 3 it is one or the other, where the document could be read and is no longer than is looked
+    // at. After every other status nothing is said of it: a document that can't be read or is too long is not played, and one that ends for want of memory is
+    // cut short.
     ensures agree { (document : List ℕ) (s : Scripted) → command_of (map string_bytes words.now) ≡ Some meant.World → S.left input.old ≡ Some document
         → WasPlayed most_bytes result document (Rose (S.faults input.old) (S.faults input.new)) → script_of document ≡ Ok s → AtEachStep HasAgreed s }
     ensures once { (document : List ℕ) (s : Scripted) → command_of (map string_bytes words.now) ≡ Some meant.World → S.left input.old ≡ Some document
@@ -86,6 +90,16 @@ pub fn run<S: Source, K: Sink, H: Hub, R: Rounds>(
         → WasPlayed most_bytes result document (Rose (S.faults input.old) (S.faults input.new)) → script_of document ≡ Ok s → AtEachStep IsFenced s }
     ensures settled { (document : List ℕ) (s : Scripted) → command_of (map string_bytes words.now) ≡ Some meant.World → S.left input.old ≡ Some document
         → WasPlayed most_bytes result document (Rose (S.faults input.old) (S.faults input.new)) → script_of document ≡ Ok s → AtEachStep HasSettled s }
+    ensures told { (document : List ℕ) (s : Scripted) → command_of (map string_bytes words.now) ≡ Some meant.World → S.left input.old ≡ Some document
+        → WasPlayed most_bytes result document (Rose (S.faults input.old) (S.faults input.new)) → script_of document ≡ Ok s → AtEachStep HasTold s }
+    ensures reported { (document : List ℕ) (s : Scripted) → command_of (map string_bytes words.now) ≡ Some meant.World → S.left input.old ≡ Some document
+        → WasPlayed most_bytes result document (Rose (S.faults input.old) (S.faults input.new)) → script_of document ≡ Ok s → AtEachStep HasReported s }
+    ensures one_word { (document : List ℕ) (s : Scripted) → command_of (map string_bytes words.now) ≡ Some meant.World → S.left input.old ≡ Some document
+        → WasPlayed most_bytes result document (Rose (S.faults input.old) (S.faults input.new)) → script_of document ≡ Ok s → AtEachStep HasOneWord s }
+
+    // So what `world` has written after status 0 is a report in which no transaction is completed in one line and aborted in another.
+    ensures one_report { command_of (map string_bytes words.now) ≡ Some meant.World → result ≡ DONE
+        → (written : List ℕ) × Appends (K.written out.old) (K.written out.new) written × OneWord written }
 
     // A large run reads nothing, and what it writes is the summary of its last world.
     ensures large { (n : ℕ) → command_of (map string_bytes words.now) ≡ Some (meant.Gen n)
