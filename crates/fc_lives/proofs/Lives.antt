@@ -19,16 +19,18 @@ use Rattle.fc_msg.specs.declared.message.MsgBody.TheVariants as body
 use Rattle.fc_standing.specs.Holding.{IsSettled}
 use Rattle.fc_store.specs.Stores.{IsWhole, IsWholeTree, Pairwise, Stored, Tree, declared_in, opening_tree, opens}
 use Rattle.fc_store.specs.Stores as stores
+use Rattle.fc_abiding.proofs.Following.{stale_facts, stale_heard, stale_state}
 use Rattle.fc_abiding.proofs.Hearing.{life_heard}
 use Rattle.fc_folding.proofs.Lives.{life_controller, life_fits, life_folds, life_unclaimed}
 use Rattle.fc_lfbs.specs.BuiltIns.{built_in}
-use Rattle.fc_transactions.specs.Order.{Step, configured}
+use Rattle.fc_transactions.specs.Order.{Step, asked_of, configured, judged}
 use Rattle.fc_abiding.proofs.Hearing.{replaced_facts, replaced_heard, replaced_state}
 use Rattle.fc_msg.specs.Messages.{message_fits}
 use Rattle.fc_path.specs.Results.{results_fit}
 use Rattle.fc_path.specs.declared.oper.Select.{Select}
 use Rattle.fc_performing.specs.declared.out.Out.{Out}
 use Rattle.fc_protocol.specs.Messages.{stamp}
+use Rattle.fc_protocol.specs.declared.verdict.Verdict.TheVariants.{Stale}
 use Rattle.fc_transactions.specs.State.{TransactionState}
 use Rattle.fc_types.specs.declared.class.Class.{Class}
 use Rattle.fc_lives.specs.Lives.{life_after}
@@ -133,33 +135,49 @@ module _ (id ce : ℕ) (library : List Class) (instances : List (ℕ × ℕ)) (i
       subst (λ (l : Life). is_control ce ≡ true → is_control l.state.ce ≡ true) back
       (life_controller id ce store configs (bare (library ++ built_in) (with_own instances)) (whole (library ++ built_in) (with_own instances)) (of_controls (opened id ce library instances) is))
 
--- ---- a life that was replaced changes nothing
-module _ (s : ElementState) (peer : ℕ) (m : Message) (selects : List Select) (below : (stamp m.corr).life < s.transactions.epoch) where
-  -- the state and the facts of a turn are as before
-  abbrev Nothing : Turn → Type 0
-  Nothing t = (t.state ≡ s) × (t.facts ≡ [])
+-- ---- a Config that transactions make nothing of changes nothing
+-- the state of a turn is as before, and nothing has happened
+abbrev Nothing : ElementState → Turn → Type 0
+Nothing s t = (t.state ≡ s) × (t.facts ≡ [])
 
-  nothing : (outs : List Out) → Nothing (turn s outs)
+module _ (s : ElementState) (peer : ℕ) (m : Message) (selects : List Select)
+    (same : (configured s.transactions peer m selects).state ≡ s.transactions) (unheard : (configured s.transactions peer m selects).is_heard ≡ false)
+    (unseen : (configured s.transactions peer m selects).facts ≡ []) where
+  nothing : (outs : List Out) → Nothing s (turn s outs)
   nothing outs = (refl, refl)
 
-  taking_by : (t : Step) → t.state ≡ s.transactions → t.is_heard ≡ false → t.facts ≡ [] → Nothing (taking s peer m t)
+  taking_by : (t : Step) → t.state ≡ s.transactions → t.is_heard ≡ false → t.facts ≡ [] → Nothing s (taking s peer m t)
   taking_by t state heard facts = (ap (λ (b : Bool). hearing_if b (with_transactions s t.state) peer m) heard ∙ ap (with_transactions s) state, facts)
 
-  either_turn : (b : Bool) (t u : Turn) → Nothing t → Nothing u → Nothing (if b then t else u)
+  either_turn : (b : Bool) (t u : Turn) → Nothing s t → Nothing s u → Nothing s (if b then t else u)
   either_turn true t u h k = h
   either_turn false t u h k = k
 
-  order_nothing : Nothing (by_order s peer m selects)
+  order_nothing : Nothing s (by_order s peer m selects)
   order_nothing =
       let taken = taking s peer m (configured s.transactions peer m selects) in
-      let last = taking_by (configured s.transactions peer m selects) (replaced_state s.transactions peer m selects below) (replaced_heard s.transactions peer m selects below) (replaced_facts s.transactions peer m selects below) in
+      let last = taking_by (configured s.transactions peer m selects) same unheard unseen in
       let moded = either_turn (m.flags.em == 0) (all_get s peer m selects 18) taken (refl, refl) last in
       let own = either_turn (not (is_own s m)) (all_get s peer m selects 4) (if m.flags.em == 0 then all_get s peer m selects 18 else taken) (refl, refl) moded in
       either_turn (not (results_fit selects && message_fits m)) (turn s []) (if not (is_own s m) then all_get s peer m selects 4 else (if m.flags.em == 0 then all_get s peer m selects 18 else taken)) (nothing []) own
 
-  config_nothing : Nothing (on_config s peer m selects)
+  config_nothing : Nothing s (on_config s peer m selects)
   config_nothing = either_turn (is_associated s m) (by_order s peer m selects) (turn s []) order_nothing (nothing [])
 
-  pub replaced_nothing : m.body ≡ body.Config selects → Nothing (step s (Arrived peer m))
+  nothing_done : m.body ≡ body.Config selects → Nothing s (step s (Arrived peer m))
   unfolding step
-  replaced_nothing is = either_turn (is_ce m.source) (on_body s peer m m.body) (turn s []) (subst (λ b. Nothing (on_body s peer m b)) (sym is) config_nothing) (nothing [])
+  nothing_done is = either_turn (is_ce m.source) (on_body s peer m m.body) (turn s []) (subst (λ b. Nothing s (on_body s peer m b)) (sym is) config_nothing) (nothing [])
+
+-- one whose verdict is that it is stale
+pub stale_nothing : (s : ElementState) (peer : ℕ) (m : Message) (selects : List Select) → m.body ≡ body.Config selects → judged s.transactions m (asked_of m selects) ≡ Stale
+    → Nothing s (step s (Arrived peer m))
+stale_nothing s peer m selects is stale =
+    let t = s.transactions in
+    nothing_done s peer m selects (stale_state t peer m selects stale) (stale_heard t peer m selects stale) (stale_facts t peer m selects stale) is
+
+-- one of a life that was replaced
+pub replaced_nothing : (s : ElementState) (peer : ℕ) (m : Message) (selects : List Select) → (stamp m.corr).life < s.transactions.epoch → m.body ≡ body.Config selects
+    → Nothing s (step s (Arrived peer m))
+replaced_nothing s peer m selects below is =
+    let t = s.transactions in
+    nothing_done s peer m selects (replaced_state t peer m selects below) (replaced_heard t peer m selects below) (replaced_facts t peer m selects below) is

@@ -15,7 +15,9 @@ ghost use Rattle.fc_msg.specs.declared.message.Message.{Message as Messages};
 ghost use Rattle.fc_msg.specs.declared.message.MsgBody.TheVariants.{Config};
 ghost use Rattle.fc_path.specs.declared.oper.Select.{Select as Selects};
 ghost use Rattle.fc_protocol.specs.Messages.{stamp};
+ghost use Rattle.fc_protocol.specs.declared.verdict.Verdict.TheVariants.{Stale};
 ghost use Rattle.fc_protocol.specs.OneElement.{Distinct, FewParticipants, FloorClear, Limited, Owned, PreparedFirst, RecordsTell, ScopesApart, SettlesOnce};
+ghost use Rattle.fc_transactions.specs.Order.{asked_of, judged};
 ghost use Rattle.fc_types.specs.declared.class.Class.{Class as Classes};
 
 /// Of a new element, after any inputs from any peers: its settled configuration is the fold of what it has completed on the one with which it opened,
@@ -52,4 +54,11 @@ pub fn elements_keep_to_the_protocol()
 pub fn replaced_lives_change_no_element()
     ensures state { (s : ElementState) (peer : ℕ) (m : Messages) (selects : List Selects) → m.body ≡ Config selects → (stamp m.corr).life < s.transactions.epoch → (step s (Arrived peer m)).state ≡ s }
     ensures facts { (s : ElementState) (peer : ℕ) (m : Messages) (selects : List Selects) → m.body ≡ Config selects → (stamp m.corr).life < s.transactions.epoch → (step s (Arrived peer m)).facts ≡ [] }
+{}
+
+/// A Config whose verdict is that it is stale changes nothing at an element, in any part, its associations among them, and is no fact, whoever
+/// sends it, over whichever peer, and whatever it asks.
+pub fn stale_configs_change_no_element()
+    ensures state { (s : ElementState) (peer : ℕ) (m : Messages) (selects : List Selects) → m.body ≡ Config selects → judged s.transactions m (asked_of m selects) ≡ Stale → (step s (Arrived peer m)).state ≡ s }
+    ensures facts { (s : ElementState) (peer : ℕ) (m : Messages) (selects : List Selects) → m.body ≡ Config selects → judged s.transactions m (asked_of m selects) ≡ Stale → (step s (Arrived peer m)).facts ≡ [] }
 {}

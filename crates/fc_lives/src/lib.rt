@@ -9,4 +9,7 @@ pub use events::{
     an_element_tells_of_its_settled_configuration, registered_events_are_settled,
     registered_events_are_sound, registered_events_pass,
 };
-pub use laws::{elements_fold, elements_keep_to_the_protocol, replaced_lives_change_no_element};
+pub use laws::{
+    elements_fold, elements_keep_to_the_protocol, replaced_lives_change_no_element,
+    stale_configs_change_no_element,
+};
