@@ -1,7 +1,0 @@
-//! Tests of what a Config asks of an element: the shapes of a claim, a floor and each phase of a transaction, and what comes near to them.
-#![tactic(auto)]
-
-#[cfg(test)]
-mod phases;
-#[cfg(test)]
-mod told;
