@@ -77,7 +77,7 @@ fn has_bytes(line: &str) -> bool {
 }
 
 // How what is sent at a line is told: by bytes where the line has the bytes of a message, or wants some; else in this way.
-pub(crate) fn telling(line: &str, other: Telling) -> Result<Telling, Fail> {
+pub(crate) fn telling_of(line: &str, other: Telling) -> Result<Telling, Fail> {
     let (_, asked) = peer_of(line)?;
     let (_, wanted) = cut(line, " = ");
     if has_bytes(asked) || wanted.starts_with("100") {

@@ -1,7 +1,7 @@
 // Tables of what comes to an element or a control element, with what it sends: each case begins with a new one, and ends with its report, and with
 // its status where that is not 0.
 use crate::hub::ran;
-use crate::lines::{Telling, push_act, push_events, telling};
+use crate::lines::{Telling, push_act, push_events, telling_of};
 use fc_hub::{Act, HubEvent};
 use fc_test_kit::cut;
 use std::alloc::Global;
@@ -105,7 +105,7 @@ fn seen(
             let (asked, _) = cut(line, " =");
             text.extend_from_slice(asked.as_bytes())?;
             text.extend_from_slice(b" =")?;
-            let telling = telling(line, told_by(words))?;
+            let telling = telling_of(line, told_by(words))?;
             push_acts(alloc, &mut text, hub.acts(), behind, *end, telling)?;
             text.push(b'\n')?;
         }
