@@ -189,7 +189,7 @@ fn push_head(alloc: Global, text: &mut Vec<u8>, bytes: &[u8]) -> Result<(), Fail
     Ok(())
 }
 
-// A message that is sent to a peer: the number of the peer with what is told of the message, or its bytes alone.
+// A message that is sent to a peer: the number of the peer with what is told of the message, or its bytes, behind the number where it is not 1.
 fn push_sent(
     alloc: Global,
     text: &mut Vec<u8>,
@@ -198,6 +198,9 @@ fn push_sent(
     telling: Telling,
 ) -> Result<(), Fail> {
     if telling == Telling::Bytes {
+        if peer != 1 {
+            text.extend_from_slice(format!(in alloc; " @{peer}")?.as_bytes())?;
+        }
         return push_bytes(text, bytes);
     }
     text.extend_from_slice(format!(in alloc; " {peer}")?.as_bytes())?;

@@ -74,6 +74,11 @@ fn push_acts(
     Ok(())
 }
 
+// Whether something was done at the hub before the first event.
+fn has_early(acts: &[(u64, Act)]) -> bool {
+    acts.iter().any(|act| act.0 == 0)
+}
+
 // The last lines of a case: the report, and a status other than 0.
 fn push_end(alloc: Global, text: &mut Vec<u8>, report: &[u8], status: u8) -> Result<(), Fail> {
     text.extend_from_slice(report)?;
@@ -95,6 +100,9 @@ fn seen(
     let (events, ends) = events_of(alloc, words, case, piece)?;
     let input = Vec::from_slice(alloc, document.as_bytes())?;
     let (status, report, hub) = ran(alloc, words, input, events)?;
+    if has_early(hub.acts()) {
+        return Err(Fail::from("an act before the first event"));
+    }
     let mut text = Vec::new(alloc);
     let mut behind = opened(words);
     for (line, end) in case.lines().zip(ends.iter()) {

@@ -4,6 +4,7 @@ mod ends;
 mod faults;
 mod identifiers;
 mod items;
+mod kinds;
 mod limits;
 mod lists;
 mod long_selects;

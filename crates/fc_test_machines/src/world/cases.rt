@@ -31,10 +31,13 @@ pub(crate) fn is_reported(alloc: Global, world: &World, wanted: &str) -> Result<
     Ok(text.as_slice() == wanted.as_bytes())
 }
 
-// Whether a case is as it says.
+// Whether a case is as it says; one that says nothing is not.
 fn is_so(alloc: Global, case: &str) -> Result<bool, Fail> {
     let (steps, told) = cut(case, "\n\n");
     let (messages, report) = cut(told, "\n\n");
+    if messages.is_empty() && report.is_empty() {
+        return Ok(false);
+    }
     let world = behind(alloc, steps)?;
     if !are_sent(alloc, &world, messages)? {
         return Ok(false);

@@ -105,6 +105,7 @@ forget 1
     "
 
 
+
 element 1 epoch 0 ce 40000001 sequence 0
 element 2 epoch 0 ce 40000001 sequence 0
 controller 1 stopped

@@ -107,7 +107,7 @@ fn is_read(alloc: Global, bytes: &[u8], text: &[u8]) -> Result<bool, Fail> {
 }
 
 // Whether a message of this text comes back in each way.
-fn comes_back(alloc: Global, bytes: &[u8], text: &[u8]) -> Result<bool, Fail> {
+pub(crate) fn comes_back(alloc: Global, bytes: &[u8], text: &[u8]) -> Result<bool, Fail> {
     Ok(
         is_shown(alloc, bytes, text)?
             && is_made(alloc, bytes, text)?
