@@ -1,0 +1,11 @@
+//! Tests of a network element as a whole: which messages go between its elements and its control elements, what it tells of itself, and how much it takes.
+#![tactic(auto)]
+
+#[cfg(test)]
+mod memory;
+#[cfg(test)]
+mod messages;
+#[cfg(test)]
+mod stage;
+#[cfg(test)]
+mod worlds;
