@@ -102,5 +102,6 @@ fn main(rt: HostRuntime) -> ExitCode {
         &mut hub,
         &mut rounds,
     );
+    hub.finish();
     ExitCode::from(status)
 }
