@@ -2,16 +2,20 @@
 #![tactic(auto)]
 
 use fc_base::{Memory, StdSink, StdSource, Text};
-use fc_hub::{FileRounds, Patient, TcpHub};
+use fc_hub::{FileRounds, Patient, Sockets, TcpHub};
 use fc_tool::run;
 use fc_words::{Command, WordFault, command};
 use std::alloc::Global;
+use std::fs::File;
 use std::io::ErrorKind;
+use std::os::fd::AsRawFd;
 use std::process::ExitCode;
 use std::rt::Env;
 use std::{env, io};
 
 const NO_MEMORY: u8 = 9;
+// The last descriptor of the standard streams.
+const STANDARD_ERROR: i32 = 2;
 
 // The words after the program's name. Words that are no text in UTF-8 make none, which is no command.
 fn words(alloc: Global, rt: &(impl Env + AllocGlobal)) -> Result<Vec<String>, Memory> {
@@ -42,7 +46,7 @@ fn hub<'a>(
     alloc: Global,
     rt: &'a HostRuntime,
     words: &[String],
-) -> Result<TcpHub<&'a HostRuntime>, Memory> {
+) -> Result<TcpHub<Sockets<&'a HostRuntime>>, Memory> {
     let Some(meant) = meant(alloc, words)? else {
         return TcpHub::listen(alloc, rt, "", 1);
     };
@@ -78,8 +82,19 @@ fn rounds_file(alloc: Global, words: &[String]) -> Result<Text, Memory> {
     }
 }
 
+// A descriptor in the place of a standard stream that was closed, if one was: a directory, from which nothing can be read and to
+// which nothing can be written.
+fn held(rt: &HostRuntime) -> Option<File> {
+    match File::open(rt, "/") {
+        Ok(file) if file.as_raw_fd() <= STANDARD_ERROR => Some(file),
+        _ => None,
+    }
+}
+
 fn main(rt: HostRuntime) -> ExitCode {
     let alloc = rt.alloc();
+    // Else a socket would take the number of a stream that was closed, and the report would go to an element.
+    let _held = [held(&rt), held(&rt), held(&rt)];
     let Ok(words) = words(alloc, &rt) else {
         return ExitCode::from(NO_MEMORY);
     };
