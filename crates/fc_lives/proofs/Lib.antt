@@ -10,3 +10,4 @@ pub mod Phases
 pub mod Types
 pub mod Sound
 pub mod Inputs
+pub mod Rests

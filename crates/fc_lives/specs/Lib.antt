@@ -1,3 +1,4 @@
 pub mod Lives
 pub mod SettledEvents
 pub mod Registered
+pub mod Rests

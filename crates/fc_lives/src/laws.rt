@@ -1,15 +1,19 @@
 // Laws of an element over whole lists of inputs.
 ghost use Rattle.std.specs.Prelude.{◌≡◌, ℕ, ◌<◌, List, [], true};
+ghost use Rattle.std.specs.List.{AllByRecursion};
 ghost use Rattle.fc_abiding.specs.Abiding.{seen};
 ghost use Rattle.fc_abiding.specs.Runs.{IsHeard};
 ghost use Rattle.fc_agreement.specs.Scopes.{RisingScopes};
 ghost use Rattle.fc_blocks.specs.Opening.{opened_store};
-ghost use Rattle.fc_element.specs.ElementMachine.{step};
-ghost use Rattle.fc_element.specs.ElementState.{ElementState};
+ghost use Rattle.fc_element.specs.ElementMachine.{ledger_of, step};
+ghost use Rattle.fc_element.specs.ElementState.{ElementState, opened};
+ghost use Rattle.fc_element.specs.Runs.{after};
 ghost use Rattle.fc_element.specs.declared.input.ElIn.{ElIn};
 ghost use Rattle.fc_element.specs.declared.input.ElIn.TheVariants.{Arrived};
 ghost use Rattle.fc_folding.specs.Folding.{Fits, Folds, is_control};
 ghost use Rattle.fc_lives.specs.Lives.{life_after};
+ghost use Rattle.fc_lives.specs.Rests.{AreKeptRests, AreProperIns};
+ghost use Rattle.fc_lives.specs.SettledEvents.{with_restarts};
 ghost use Rattle.fc_machine.specs.Trace.{bare_facts};
 ghost use Rattle.fc_msg.specs.declared.message.Message.{Message as Messages};
 ghost use Rattle.fc_msg.specs.declared.message.MsgBody.TheVariants.{Config};
@@ -61,4 +65,10 @@ pub fn replaced_lives_change_no_element()
 pub fn stale_configs_change_no_element()
     ensures state { (s : ElementState) (peer : ℕ) (m : Messages) (selects : List Selects) → m.body ≡ Config selects → judged s.transactions m (asked_of m selects) ≡ Stale → (step s (Arrived peer m)).state ≡ s }
     ensures facts { (s : ElementState) (peer : ℕ) (m : Messages) (selects : List Selects) → m.body ≡ Config selects → judged s.transactions m (asked_of m selects) ≡ Stale → (step s (Arrived peer m)).facts ≡ [] }
+{}
+
+/// After any inputs that are messages of the grammar, and restarts between them, each rest that an element keeps is a list of selects that the grammar
+/// has in a Config, not empty; and a Config with these selects passes no length field, so it can be sent, and is read as itself.
+pub fn kept_rests_can_be_sent()
+    ensures { (id ce : ℕ) (library : List Classes) (instances : List (ℕ × ℕ)) (runs : List (List ElIn)) (is : List ElIn) → AllByRecursion AreProperIns runs → AreProperIns is → AreKeptRests (ledger_of (after (with_restarts (opened id ce library instances) runs) is)).holdings }
 {}

@@ -10,6 +10,6 @@ pub use events::{
     registered_events_are_sound, registered_events_pass,
 };
 pub use laws::{
-    elements_fold, elements_keep_to_the_protocol, replaced_lives_change_no_element,
-    stale_configs_change_no_element,
+    elements_fold, elements_keep_to_the_protocol, kept_rests_can_be_sent,
+    replaced_lives_change_no_element, stale_configs_change_no_element,
 };
