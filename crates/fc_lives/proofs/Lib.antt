@@ -11,3 +11,4 @@ pub mod Types
 pub mod Sound
 pub mod Inputs
 pub mod Rests
+pub mod Told

@@ -12,7 +12,9 @@ ghost use Rattle.fc_folding.specs.Folding.{is_control, settled_now};
 ghost use Rattle.fc_headline.specs.Events.{Preserves};
 ghost use Rattle.fc_lives.specs.Registered.{AreSound};
 ghost use Rattle.fc_lives.specs.SettledEvents.{AreQuiet, TellsSettled, all_held, with_restarts};
+ghost use Rattle.fc_lives.specs.Told.{Takes, TellsReports};
 ghost use Rattle.fc_msg.specs.declared.message.Message.{Message};
+ghost use Rattle.fc_msg.specs.declared.message.MsgBody.TheVariants.{Config};
 ghost use Rattle.fc_path.specs.declared.oper.Select.{Select};
 ghost use Rattle.fc_standing.specs.Basis.{store_basis};
 ghost use Rattle.fc_store.specs.Stores.{Stored};
@@ -46,4 +48,11 @@ pub fn registered_events_are_sound()
 /// properties were set with the evaluation behind that, holds after any inputs, and restarts between them.
 pub fn registered_events_pass()
     ensures { (id ce : ℕ) (library : List Class) (instances : List (ℕ × ℕ)) (runs : List (List ElIn)) (is : List ElIn) (test : Stored → List Subscription → Bool) → let store = opened_store library instances in Preserves (store_basis (λ n. 0) 0 store.instances) (λ c subs. test c subs ≡ true) → test store [] ≡ true → let l = ledger_of (after (with_restarts (opened id ce library instances) runs) is) in test (settled_now l) l.subscriptions ≡ true }
+{}
+
+/// After any inputs, and restarts between them, of each Config that an element takes and does: the response goes out, and behind it one notice for
+/// each report of it, in their order, to the control element that may configure the element and over the peer of its association. None is left
+/// out but where a length in its message passes its field. What the reports are says `an_element_tells_of_its_settled_configuration`.
+pub fn notices_are_the_reports()
+    ensures { (id ce : ℕ) (library : List Class) (instances : List (ℕ × ℕ)) (runs : List (List ElIn)) (is : List ElIn) (peer : ℕ) (m : Message) (selects : List Select) (d : Did) → let s = after (with_restarts (opened id ce library instances) runs) is in m.body ≡ Config selects → Takes s peer m selects → did_at s.transactions m selects ≡ Some d → TellsReports s peer m selects d }
 {}

@@ -6,8 +6,8 @@ mod events;
 mod laws;
 
 pub use events::{
-    an_element_tells_of_its_settled_configuration, registered_events_are_settled,
-    registered_events_are_sound, registered_events_pass,
+    an_element_tells_of_its_settled_configuration, notices_are_the_reports,
+    registered_events_are_settled, registered_events_are_sound, registered_events_pass,
 };
 pub use laws::{
     elements_fold, elements_keep_to_the_protocol, kept_rests_can_be_sent,
