@@ -92,13 +92,38 @@ class Element:
         self.process.communicate()
 
 
+class Visit:
+    """A connection of a control element to an element: what went over, as who sent it and which bytes, and when the last of it came."""
+
+    def __init__(self, place, control, side):
+        self.parts = []
+        self.place, self.control, self.side = place, control, side
+        self.last = time.monotonic()
+
+    def passed(self, who):
+        """Passes on what one of both sends, unless it hangs up."""
+        source, other = (self.control, self.side) if who == "control" else (self.side, self.control)
+        try:
+            piece = source.recv(65536)
+            if piece:
+                other.sendall(piece)
+        except OSError:
+            return False
+        if piece:
+            self.parts.append((who, piece))
+            self.last = time.monotonic()
+        return bool(piece)
+
+
 class Relay:
-    """Stands between a control element and elements, one connection at a time, and ends each that was silent for a while."""
+    """Stands between a control element and elements, over all their connections at once, and ends each that was silent for a while."""
 
     def __init__(self, elements, silence):
         self.elements, self.silence = elements, silence
         self.listeners = [listener() for _ in elements]
+        # the place of the element and what went over, for each connection
         self.visits = []
+        self.open = []
         self.selector = selectors.DefaultSelector()
         for place, (server, _) in enumerate(self.listeners):
             self.selector.register(server, selectors.EVENT_READ, place)
@@ -107,36 +132,36 @@ class Relay:
         return [address(port) for _, port in self.listeners]
 
     def serve(self, process):
-        """Serves a control element until it ends. Each visit that was made is the place of the element and what went over: who sent, and which bytes."""
+        """Serves a control element until it ends."""
         end = time.monotonic() + PATIENCE
         while process.poll() is None and time.monotonic() < end:
             for key, _ in self.selector.select(0.01):
-                control, _ = key.fileobj.accept()
-                with control:
-                    self.visits.append((key.data, self.passed(control, self.elements[key.data])))
+                if isinstance(key.data, int):
+                    self.begin(key.fileobj.accept()[0], key.data)
+                elif key.data[0] in self.open and not key.data[0].passed(key.data[1]):
+                    self.end(key.data[0])
+            for visit in [visit for visit in self.open if time.monotonic() - visit.last > self.silence]:
+                self.end(visit)
+        for visit in list(self.open):
+            self.end(visit)
 
-    def passed(self, control, element):
-        """Passes on what both send, until one hangs up or both are silent."""
-        parts = []
+    def begin(self, control, place):
+        element = self.elements[place]
         side = connected(element.port, element.process)
         if side is None:
-            return parts
-        with side, selectors.DefaultSelector() as ends:
-            ends.register(control, selectors.EVENT_READ, ("control", side))
-            ends.register(side, selectors.EVENT_READ, ("element", control))
-            while ready := ends.select(self.silence):
-                for key, _ in ready:
-                    who, other = key.data
-                    try:
-                        piece = key.fileobj.recv(65536)
-                        if piece:
-                            other.sendall(piece)
-                    except OSError:
-                        piece = b""
-                    if not piece:
-                        return parts
-                    parts.append((who, piece))
-        return parts
+            control.close()
+            return
+        visit = Visit(place, control, side)
+        self.visits.append((place, visit.parts))
+        self.open.append(visit)
+        self.selector.register(control, selectors.EVENT_READ, (visit, "control"))
+        self.selector.register(side, selectors.EVENT_READ, (visit, "element"))
+
+    def end(self, visit):
+        self.open.remove(visit)
+        for each in (visit.control, visit.side):
+            self.selector.unregister(each)
+            each.close()
 
     def close(self):
         self.selector.close()

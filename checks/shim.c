@@ -9,11 +9,11 @@
 #include <errno.h>
 #include <fcntl.h>
 #include <netdb.h>
-#include <poll.h>
 #include <stdarg.h>
 #include <stdio.h>
 #include <stdlib.h>
 #include <string.h>
+#include <sys/epoll.h>
 #include <sys/file.h>
 #include <sys/socket.h>
 #include <sys/stat.h>
@@ -66,11 +66,16 @@ CALL(accept4, (int f, struct sockaddr *a, socklen_t *n, int o), (f, a, n, o))
 CALL(getsockopt, (int f, int l, int o, void *p, socklen_t *n), (f, l, o, p, n))
 CALL(setsockopt, (int f, int l, int o, const void *p, socklen_t n), (f, l, o, p, n))
 CALL(shutdown, (int f, int h), (f, h))
-CALL(poll, (struct pollfd *p, nfds_t n, int t), (p, n, t))
+CALL(getpeername, (int f, struct sockaddr *a, socklen_t *n), (f, a, n))
+CALL(epoll_create1, (int o), (o))
+CALL(epoll_ctl, (int e, int o, int f, struct epoll_event *v), (e, o, f, v))
+CALL(epoll_wait, (int e, struct epoll_event *v, int n, int t), (e, v, n, t))
 CALL(ioctl, (int f, unsigned long r, void *p), (f, r, p))
 CALL(flock, (int f, int o), (f, o))
 CALL(fsync, (int f), (f))
 CALL(rename, (const char *p, const char *q), (p, q))
+CALL(unlink, (const char *p), (p))
+MOVE(readlink, (const char *p, char *b, size_t n), (p, b, n))
 CALL(clock_gettime, (clockid_t c, struct timespec *t), (c, t))
 CALL(nanosleep, (const struct timespec *t, struct timespec *r), (t, r))
 REFUSABLE(int, getaddrinfo, "getaddrinfo", EAI_SYSTEM,
