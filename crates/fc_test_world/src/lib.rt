@@ -2,10 +2,18 @@
 #![tactic(auto)]
 
 #[cfg(test)]
+mod cases;
+#[cfg(test)]
+mod generated;
+#[cfg(test)]
+mod greatest;
+#[cfg(test)]
 mod memory;
 #[cfg(test)]
 mod messages;
 #[cfg(test)]
-mod stage;
+mod network;
+#[cfg(test)]
+mod steps;
 #[cfg(test)]
 mod worlds;
