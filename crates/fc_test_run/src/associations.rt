@@ -55,7 +55,67 @@ Config C0400000 | lfb 00000002 00000001 | SET | path 4 | full 00 = 1 ConfigRespo
 moment 4000000017 =
 Heartbeat C0000000 =
 element 2 epoch 0 ce 40000001 sequence 0
-config 00000002 00000001 5 00000010";
+config 00000002 00000001 5 00000010
+
+-- who is heard at a moment is borne thirty seconds from then on
+AssociationSetupResponse 00000000 | result 0 =
+moment 1 =
+Heartbeat C0000000 = 1 Heartbeat
+moment 30001 =
+Heartbeat C0000000 = 1 Heartbeat
+element 2 epoch 0 ce 40000001 sequence 0
+
+-- no silence is borne at all
+AssociationSetupResponse 00000000 | result 0 =
+Config C0400000 | lfb 00000002 00000001 | SET | path 5 | full 00000000 = 1 ConfigResponse 00
+moment 0 =
+Heartbeat C0000000 = 1 Heartbeat
+moment 1 =
+Heartbeat C0000000 =
+element 2 epoch 0 ce 40000001 sequence 0
+config 00000002 00000001 5 00000000
+
+-- a moment before the one at which it was heard ends nothing
+AssociationSetupResponse 00000000 | result 0 =
+moment 9 =
+Config C0400000 | lfb 00000002 00000001 | SET | path 5 | full 00000000 = 1 ConfigResponse 00
+moment 5 =
+Heartbeat C0000000 = 1 Heartbeat
+element 2 epoch 0 ce 40000001 sequence 0
+config 00000002 00000001 5 00000000
+
+-- up to the last moment, with the longest silence
+AssociationSetupResponse 00000000 | result 0 =
+Config C0400000 | lfb 00000002 00000001 | SET | path 4 | full 01 | path 5 | full FFFFFFFF = 1 ConfigResponse 00 00
+moment 18446744073709551614 =
+Heartbeat C0000000 = 1 Heartbeat
+Config C0400000 | lfb 00000002 00000001 | SET | path 4 | full 00 = 1 ConfigResponse 00
+moment 18446744073709551615 =
+Heartbeat C0000000 = 1 Heartbeat
+element 2 epoch 0 ce 40000001 sequence 0
+config 00000002 00000001 5 FFFFFFFF
+
+-- and with a short one
+AssociationSetupResponse 00000000 | result 0 =
+Config C0400000 | lfb 00000002 00000001 | SET | path 4 | full 01 | path 5 | full 00000001 = 1 ConfigResponse 00 00
+moment 18446744073709551613 =
+Heartbeat C0000000 = 1 Heartbeat
+Config C0400000 | lfb 00000002 00000001 | SET | path 4 | full 00 = 1 ConfigResponse 00
+moment 18446744073709551615 =
+Heartbeat C0000000 =
+element 2 epoch 0 ce 40000001 sequence 0
+config 00000002 00000001 5 00000001
+
+-- a stranger has no association that renews or ends, and what has ended is not renewed
+AssociationSetupResponse 00000000 | result 0 =
+AssociationSetupResponse 00000000 40000002 00000002 | result 0 =
+Heartbeat C0000000 40000003 00000002 =
+AssociationTeardown 00000000 40000003 00000002 | reason 0 =
+Heartbeat C0000000 40000002 00000002 = 1 Heartbeat
+AssociationTeardown 00000000 40000002 00000002 | reason 0 =
+Heartbeat C0000000 40000002 00000002 =
+Heartbeat C0000000 = 1 Heartbeat
+element 2 epoch 0 ce 40000001 sequence 0";
 
 #[test]
 fn an_association_is_held_by_heartbeats(rt: HostRuntime) -> Result<(), Fail> {
@@ -167,15 +227,22 @@ fn push_control_element(case: &mut Vec<u8>, id: u32, answered: bool) -> Result<(
     Ok(())
 }
 
-// As many control elements as may be associated, and six more; after too long a silence as many again.
+// As many control elements as may be associated, and six more. The last of them comes once more, and the first one gives way to another one: these two
+// outlast a silence that is too long for the others. Then as many again come as there is room for, and one more.
 fn crowd(alloc: Global) -> Result<String, Fail> {
     let mut case = Vec::new(alloc);
     for number in 1..71u32 {
         push_control_element(&mut case, 0x4000_0000 | number, number <= 64)?;
     }
-    case.extend_from_slice(b"moment 30001 =\n")?;
-    for number in 101..165u32 {
-        push_control_element(&mut case, 0x4000_0000 | number, true)?;
+    case.extend_from_slice(b"moment 20000 =\n")?;
+    push_control_element(&mut case, 0x4000_0040, true)?;
+    case.extend_from_slice(b"AssociationTeardown 00000000 | reason 0 =\n")?;
+    push_control_element(&mut case, 0x4000_0041, true)?;
+    case.extend_from_slice(
+        b"moment 30001 =\nHeartbeat C0000000 40000002 00000002 =\nHeartbeat C0000000 4000003F 00000002 =\nHeartbeat C0000000 40000040 00000002 = 1 Heartbeat\nHeartbeat C0000000 40000041 00000002 = 1 Heartbeat\n",
+    )?;
+    for number in 101..164u32 {
+        push_control_element(&mut case, 0x4000_0000 | number, number < 163)?;
     }
     case.extend_from_slice(b"element 2 epoch 0 ce 40000001 sequence 0")?;
     Ok(String::from_utf8(case).ok().ok_or("a text")?)

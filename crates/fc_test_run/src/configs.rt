@@ -31,11 +31,52 @@ AssociationSetupResponse 00000000 | result 0 =
 Config C0000000 | lfb 00001001 00000001 | SET | path 1 | full 00000005 | path 2 | full 00002710 | path 3 | full 00000007 = 1 ConfigResponse 12 12 12
 element 2 epoch 0 ce 40000001 sequence 0";
 
+// Operations of every kind in one Config, and those that no mode takes.
+const KINDS: &str = "\
+-- each operation has its own code: of a number, of a class and an instance that are not there, of a path that begins with a key, of an event, of
+-- properties and of the ends of a transaction, the second of which is not told
+AssociationSetupResponse 00000000 | result 0 =
+Config C0C00000 | lfb 00001001 00000001 | SET | path 1 | full 00000005 | lfb 00001003 00000001 | DEL | path 1 | lfb 00001001 00000009 | DEL | path 1 | lfb 00001001 00000002 | SET | path key 1 65746830 | full 00000001 | path 60 1 | full 00000001 | SET-PROP | path 60 1 | sparse | ilv 2 00000001 | path 60 1 | sparse | ilv 3 00000001 | COMMIT | TRCOMP | SET | path 3 | > path | > full 00000007 = 1 ConfigResponse 00 05 07 08 14 15 15 12 00
+element 2 epoch 0 ce 40000001 sequence 0
+config 00001001 00000001 1 00000005
+config 00001001 00000002 3 00000007
+
+-- what follows a failure is not done
+AssociationSetupResponse 00000000 | result 0 =
+Config C0800000 | lfb 00001001 00000001 | SET | path 1 | full 00000005 | lfb 00001003 00000001 | DEL | path 1 | lfb 00001001 00000009 | DEL | path 1 | lfb 00001001 00000002 | SET | path key 1 65746830 | full 00000001 | path 60 1 | full 00000001 | SET-PROP | path 60 1 | sparse | ilv 2 00000001 | path 60 1 | sparse | ilv 3 00000001 | COMMIT | TRCOMP | SET | path 3 | > path | > full 00000007 = 1 ConfigResponse 00 05 FF FF FF FF FF FF FF
+element 2 epoch 0 ce 40000001 sequence 0
+config 00001001 00000001 1 00000005
+
+-- one failure undoes all
+AssociationSetupResponse 00000000 | result 0 =
+Config C0400000 | lfb 00001001 00000001 | SET | path 1 | full 00000005 | lfb 00001003 00000001 | DEL | path 1 | lfb 00001001 00000009 | DEL | path 1 | lfb 00001001 00000002 | SET | path key 1 65746830 | full 00000001 | path 60 1 | full 00000001 | SET-PROP | path 60 1 | sparse | ilv 2 00000001 | path 60 1 | sparse | ilv 3 00000001 | COMMIT | TRCOMP | SET | path 3 | > path | > full 00000007 = 1 ConfigResponse FF 05 FF FF FF FF FF FF FF
+element 2 epoch 0 ce 40000001 sequence 0
+
+-- no mode takes properties beside another operation, or ends
+AssociationSetupResponse 00000000 | result 0 =
+Config C0400000 | lfb 00001001 00000001 | SET-PROP | path 60 1 | sparse | ilv 2 00000001 | SET | path 1 | full 00000006 = 1 ConfigResponse 15 FF
+Config C0400000 | lfb 00001001 00000001 | COMMIT | SET | path 2 | full 00000007 = 1 ConfigResponse 12 FF
+Config C0400000 | lfb 00001001 00000001 | TRCOMP | SET | path 3 | full 00000008 = 1 ConfigResponse FF
+Query 00000000 | lfb 00001001 00000001 | GET | path 1 | path 2 | path 3 = 1 QueryResponse 00000000 00000000 00000000
+Config C0800000 | lfb 00001001 00000001 | SET-PROP | path 60 1 | sparse | ilv 2 00000001 | SET | path 1 | full 00000006 = 1 ConfigResponse 15 FF
+Config C0800000 | lfb 00001001 00000001 | COMMIT | SET | path 2 | full 00000007 = 1 ConfigResponse 12 FF
+Config C0800000 | lfb 00001001 00000001 | TRCOMP | SET | path 3 | full 00000008 = 1 ConfigResponse FF
+Query 00000000 | lfb 00001001 00000001 | GET | path 1 | path 2 | path 3 = 1 QueryResponse 00000000 00000000 00000000
+Config C0C00000 | lfb 00001001 00000001 | SET-PROP | path 60 1 | sparse | ilv 2 00000001 | SET | path 1 | full 00000006 = 1 ConfigResponse 15 00
+Config C0C00000 | lfb 00001001 00000001 | COMMIT | SET | path 2 | full 00000007 = 1 ConfigResponse 12 00
+Config C0C00000 | lfb 00001001 00000001 | TRCOMP | SET | path 3 | full 00000008 = 1 ConfigResponse 00
+Query 00000000 | lfb 00001001 00000001 | GET | path 1 | path 2 | path 3 = 1 QueryResponse 00000006 00000007 00000008
+element 2 epoch 0 ce 40000001 sequence 0
+config 00001001 00000001 1 00000006
+config 00001001 00000001 2 00000007
+config 00001001 00000001 3 00000008";
+
 #[test]
 fn operations_run_in_three_modes(rt: HostRuntime) -> Result<(), Fail> {
     let alloc = rt.alloc();
     for piece in [65_536, 13, 1] {
         assert_eq!(rt; first_wrong(alloc, PORTS, MODES, piece)?, None);
+        assert_eq!(rt; first_wrong(alloc, PORTS, KINDS, piece)?, None);
     }
     Ok(())
 }
@@ -67,6 +108,15 @@ Config C0400000 | lfb 00001001 00000001 | DEL | path 4 1 = 1 ConfigResponse 00
 Config C0400000 | lfb 00001001 00000001 | SET | path 4 2 | full 01120008657468300000006401 = 1 ConfigResponse 00
 Config C0C00000 | lfb 00001001 00000001 | DEL | path 4 9 | path 1 | path 6 | path 5 = 1 ConfigResponse 0B 10 0C 0B
 Config C0400000 | lfb 00001001 00000001 | SET | path 7 | full 00000000 = 1 ConfigResponse 09
+element 2 epoch 0 ce 40000001 sequence 0
+config 00001001 00000001 4 0000000201120008657468300000006401
+
+-- an entry goes and comes back at another place, and each refusal has its code
+AssociationSetupResponse 00000000 | result 0 =
+Config C0400000 | lfb 00001001 00000001 | SET | path 4 1 | full 01120008657468300000006401 = 1 ConfigResponse 00
+Config C0400000 | lfb 00001001 00000001 | DEL | path 4 1 | SET | path 4 2 | full 01120008657468300000006401 = 1 ConfigResponse 00 00
+Query 00000000 | lfb 00001001 00000001 | GET | path 4 1 = 1 QueryResponse 0B
+Config C0C00000 | lfb 00001001 00000001 | DEL | path 4 9 | path 1 | path 6 | path 5 | SET | path 7 | full 00000001 = 1 ConfigResponse 0B 10 0C 0B 09
 element 2 epoch 0 ce 40000001 sequence 0
 config 00001001 00000001 4 0000000201120008657468300000006401";
 

@@ -11,6 +11,10 @@ mod configs;
 #[cfg(test)]
 mod controlling;
 #[cfg(test)]
+mod decided;
+#[cfg(test)]
+mod events;
+#[cfg(test)]
 mod full;
 #[cfg(test)]
 mod hub;

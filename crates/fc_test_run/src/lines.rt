@@ -37,13 +37,18 @@ fn indentation(word: &str) -> &'static str {
     }
 }
 
-// The text of a message whose lines are parted by bars.
+// The text of a message whose lines are parted by bars. A line that begins with `>` stands in the path above it.
 fn message_text(alloc: Global, line: &str) -> Result<String, Fail> {
     let (words, body) = cut(line, " | ");
     let mut text = head(alloc, words)?;
     for part in body.split(" | ") {
         if !part.is_empty() {
+            let (deeper, part) = match part.strip_prefix("> ") {
+                Some(part) => ("  ", part),
+                None => ("", part),
+            };
             let (word, _) = cut(part, " ");
+            text.push_str(deeper)?;
             text.push_str(indentation(word))?;
             text.push_str(part)?;
             text.push_str("\n")?;
@@ -80,6 +85,7 @@ fn has_bytes(line: &str) -> bool {
 pub(crate) fn telling_of(line: &str, other: Telling) -> Result<Telling, Fail> {
     let (_, asked) = peer_of(line)?;
     let (_, wanted) = cut(line, " = ");
+    let (_, wanted) = peer_of(wanted)?;
     if has_bytes(asked) || wanted.starts_with("100") {
         return Ok(Telling::Bytes);
     }
@@ -143,12 +149,23 @@ fn push_word(alloc: Global, text: &mut Vec<u8>, word: &str) -> Result<(), Fail> 
     Ok(())
 }
 
-// What a line of a message tells: its name, a code, a value or a property.
-fn push_line(alloc: Global, text: &mut Vec<u8>, line: &str) -> Result<(), Fail> {
+// What a line of a message tells: its name, a code, a value or a property; of a notice its place too.
+fn push_line(
+    alloc: Global,
+    text: &mut Vec<u8>,
+    line: &str,
+    has_place: bool,
+) -> Result<(), Fail> {
     let (word, rest) = cut(line.trim_start(), " ");
     match word {
         "code" | "full" | "ilv" | "reason" => push_word(alloc, text, rest),
-        "lfb" | "path" | "sparse" => Ok(()),
+        "sparse" => Ok(()),
+        "lfb" | "path" => {
+            if has_place {
+                return push_word(alloc, text, rest);
+            }
+            Ok(())
+        }
         _ => {
             if rest.is_empty() {
                 return Ok(());
@@ -162,8 +179,9 @@ fn push_line(alloc: Global, text: &mut Vec<u8>, line: &str) -> Result<(), Fail> 
 fn push_message(alloc: Global, text: &mut Vec<u8>, bytes: &[u8]) -> Result<(), Fail> {
     let shown = written(alloc, "show", bytes)?;
     let shown = String::from_utf8(shown).ok().ok_or("a text")?;
+    let has_place = shown.starts_with("EventNotification");
     for line in shown.lines() {
-        push_line(alloc, text, line)?;
+        push_line(alloc, text, line, has_place)?;
     }
     Ok(())
 }

@@ -192,9 +192,49 @@ Config C0780000 40000001 00000002 0000010100000004 | lfb 0001F001 00000001 | SET
 element 2 epoch 257 ce 40000001 sequence 4
 record 514.7 aborted";
 
+// What comes near to a claim, a start and the other phases.
+const NEAR: &str = "\
+-- what comes near to a claim: another operation, another length, another class and another component
+AssociationSetupResponse 00000000 | result 0 =
+Config C0400000 40000001 00000002 0000020100000000 | lfb 0001F001 00000001 | SET | path 1 | full 00000201 | path 1 | full 00000202 = 1 ConfigResponse 0C FF
+Config C0400000 40000001 00000002 0000020100000000 | lfb 0001F001 00000001 | SET | path 1 | full 0000020100 = 1 ConfigResponse 0C
+Config C0400000 40000001 00000002 0000020100000000 | lfb 00001001 00000001 | SET | path 1 | full 00000201 = 1 ConfigResponse 00
+Config C0400000 40000001 00000002 0000020100000000 | lfb 0001F001 00000001 | SET | path 2 | full 00000201 = 1 ConfigResponse 0C
+element 2 epoch 0 ce 40000001 sequence 0
+config 00001001 00000001 1 00000201
+
+-- a start with operations in a select of their own and in its own one, with more behind the opening, and behind another select
+AssociationSetupResponse 00000000 | result 0 =
+claim 40000001 00000101 = 1 ConfigResponse 00
+start 1 1 2 | lfb 00001001 00000001 | SET | path 1 | full 00000005 | lfb 00001001 00000002 | DEL | path 3 = 1 ConfigResponse 00 10 FF
+start 2 2 2 | DEL | path 9 | lfb 00001001 00000001 | SET | path 1 | full 00000005 = 1 ConfigResponse 00 10 FF
+Config C0600000 40000001 00000002 0000010100000003 | lfb 0001F001 00000001 | SET | path 4 | full 000001010000000301120014000000010000000100000002000000020112000400 = 1 ConfigResponse 10
+Config C0600000 40000001 00000002 0000010100000004 | lfb 00001001 00000001 | SET | path 1 | full 00000005 | lfb 0001F001 00000001 | SET | path 4 | full 0000010100000004011200140000000100000001000000020000000201120004 = 1 ConfigResponse 10 10
+element 2 epoch 257 ce 40000001 sequence 4
+record 257.1 aborted
+record 257.2 aborted
+
+-- a change of no transaction; ends by both, by a change and by a COMMIT in another select; aborts with more behind them, and by other subjects
+AssociationSetupResponse 00000000 | result 0 =
+claim 40000001 00000101 = 1 ConfigResponse 00
+start 1 1 all = 1 ConfigResponse 00
+Config C0680000 40000001 00000002 0000010100000002 | lfb 0001F001 00000001 | SET | path 5 | full 0000000000000000 = 1 ConfigResponse 0B
+Config C0700000 40000001 00000002 0000010100000003 | lfb 0001F001 00000001 | SET | path 5 | full 0000010100000001 | COMMIT | TRCOMP = 1 ConfigResponse 10 10
+Config C0700000 40000001 00000002 0000010100000004 | lfb 0001F001 00000001 | SET | path 5 | full 0000010100000001 | DEL | path 3 = 1 ConfigResponse 10 10
+Config C0700000 40000001 00000002 0000010100000005 | lfb 0001F001 00000001 | SET | path 5 | full 0000010100000001 | lfb 0001F001 00000001 | COMMIT = 1 ConfigResponse 10 10
+Config C0780000 40000001 00000002 0000010100000006 | lfb 0001F001 00000001 | SET | path 5 | full 0000010100000001 | COMMIT = 1 ConfigResponse 10 10
+Config C0780000 40000001 00000002 0000010100000007 | lfb 0001F001 00000001 | SET | path 5 key 1 00 | full 0000010100000001 = 1 ConfigResponse 10
+Config C0780000 40000001 00000002 0000010100000008 | lfb 0001F001 00000001 | SET | path 5 1 | full 0000010100000001 = 1 ConfigResponse 10
+Config C0780000 40000001 00000002 0000010100000009 | lfb 0001F001 00000001 | DEL | path 5 = 1 ConfigResponse 10
+Config C0780000 40000001 00000002 000001010000000A | lfb 0001F001 00000001 | SET | path 5 | full 00000101000001 = 1 ConfigResponse 10
+element 2 epoch 257 ce 40000001 sequence 10
+record 257.1 started";
+
 #[test]
 fn what_comes_along_is_done_whole_or_undoes_all(rt: HostRuntime) -> Result<(), Fail> {
-    assert_eq!(rt; first_wrong(rt.alloc(), PORTS, SHAPES, 65_536)?, None);
+    for cases in [SHAPES, NEAR] {
+        assert_eq!(rt; first_wrong(rt.alloc(), PORTS, cases, 65_536)?, None);
+    }
     Ok(())
 }
 

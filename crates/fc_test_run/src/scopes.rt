@@ -233,3 +233,64 @@ fn what_is_held_stands_apart(rt: HostRuntime) -> Result<(), Fail> {
     }
     Ok(())
 }
+
+// Operations that lie within the scope of their transaction, and outside it.
+const WITHIN: &str = "\
+-- within the first port
+AssociationSetupResponse 00000000 | result 0 =
+claim 40000001 00000101 = 1 ConfigResponse 00
+start 1 1 1 | lfb 00001001 00000002 | COMMIT = 1 ConfigResponse 00 12
+start 2 2 1 | lfb 00001001 00000002 | SET | path 1 | full 00000006 | path 1 | full 00000007 = 1 ConfigResponse 00 10 FF
+start 3 3 1 | lfb 00001001 00000001 | SET | path 1 | full 00000008 = 1 ConfigResponse 00 00
+element 2 epoch 257 ce 40000001 sequence 3
+record 257.1 aborted
+record 257.2 aborted
+record 257.3 started
+
+-- within the second
+AssociationSetupResponse 00000000 | result 0 =
+claim 40000001 00000101 = 1 ConfigResponse 00
+start 1 1 2 | lfb 00001001 00000002 | COMMIT = 1 ConfigResponse 00 12
+start 2 2 2 | lfb 00001001 00000002 | SET | path 1 | full 00000006 | path 1 | full 00000007 = 1 ConfigResponse 00 00 00
+change 3 2 | lfb 00001001 00000001 | SET | path 1 | full 00000008 = 1 ConfigResponse 00 10
+element 2 epoch 257 ce 40000001 sequence 3
+record 257.1 aborted
+record 257.2 aborted
+
+-- within both
+AssociationSetupResponse 00000000 | result 0 =
+claim 40000001 00000101 = 1 ConfigResponse 00
+start 1 1 12 | lfb 00001001 00000002 | COMMIT = 1 ConfigResponse 00 12
+start 2 2 12 | lfb 00001001 00000002 | SET | path 1 | full 00000006 | path 1 | full 00000007 | lfb 00001001 00000001 | SET | path 1 | full 00000008 = 1 ConfigResponse 00 00 00 00
+element 2 epoch 257 ce 40000001 sequence 2
+record 257.1 aborted
+record 257.2 started
+
+-- within all
+AssociationSetupResponse 00000000 | result 0 =
+claim 40000001 00000101 = 1 ConfigResponse 00
+start 1 1 all | lfb 00001001 00000002 | COMMIT = 1 ConfigResponse 00 12
+start 2 2 all | lfb 00001001 00000002 | SET | path 1 | full 00000006 | path 1 | full 00000007 | lfb 00001001 00000001 | SET | path 1 | full 00000008 = 1 ConfigResponse 00 00 00 00
+element 2 epoch 257 ce 40000001 sequence 2
+record 257.1 aborted
+record 257.2 started
+
+-- what lies outside undoes its transaction, and the other one stays
+AssociationSetupResponse 00000000 | result 0 =
+claim 40000001 00000101 = 1 ConfigResponse 00
+start 1 1 1 | lfb 00001001 00000001 | SET | path 1 | full 00000006 = 1 ConfigResponse 00 00
+start 2 2 2 | lfb 00001001 00000002 | SET | path 1 | full 00000007 = 1 ConfigResponse 00 00
+change 3 1 | lfb 00001001 00000001 | SET | path 1 | full 00000009 | lfb 00001001 00000002 | SET | path 1 | full 00000009 = 1 ConfigResponse 00 FF 10
+Query 00000000 | lfb 00001001 00000001 | GET | path 1 | lfb 00001001 00000002 | GET | path 1 = 1 QueryResponse 00000000 00000007
+prepare 4 2 = 1 ConfigResponse 00 00
+complete 5 2 = 1 ConfigResponse 00
+element 2 epoch 257 ce 40000001 sequence 5
+record 257.1 aborted
+record 257.2 completed
+config 00001001 00000002 1 00000007";
+
+#[test]
+fn what_lies_outside_a_scope_is_refused(rt: HostRuntime) -> Result<(), Fail> {
+    assert_eq!(rt; first_wrong(rt.alloc(), PORTS, WITHIN, 65_536)?, None);
+    Ok(())
+}

@@ -1,8 +1,17 @@
-//! Tests of a network element as a whole: which messages go between its elements and its control elements, what it tells of itself, and how much it takes.
+//! Tests of a network element as a whole, and of its elements and control elements: which messages go between them, what they tell and refuse, and how
+//! much they take.
 #![tactic(auto)]
 
 #[cfg(test)]
 mod cases;
+#[cfg(test)]
+mod copies;
+#[cfg(test)]
+mod deciding;
+#[cfg(test)]
+mod elements;
+#[cfg(test)]
+mod fence;
 #[cfg(test)]
 mod generated;
 #[cfg(test)]
@@ -13,6 +22,14 @@ mod memory;
 mod messages;
 #[cfg(test)]
 mod network;
+#[cfg(test)]
+mod plans;
+#[cfg(test)]
+mod records;
+#[cfg(test)]
+mod refused;
+#[cfg(test)]
+mod said;
 #[cfg(test)]
 mod steps;
 #[cfg(test)]

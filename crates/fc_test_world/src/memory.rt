@@ -7,7 +7,8 @@ use fc_world::{Step, World, WorldFault};
 use std::alloc::Global;
 use std::test::Fail;
 
-// The control element starts, both elements have a connection, a transaction completes at both, and the floor rises past it.
+// The control element starts, both elements have a connection, a transaction completes at both, the floor rises past it, and a plain change is
+// refused, of which the element is asked.
 const STEPS: &str = "start 1 1
 open 1 1
 open 2 1
@@ -15,10 +16,12 @@ deliver 1-12
 begin 1 t
 deliver 13-28
 forget 1
-deliver 29-32";
+deliver 29-32
+plain 1 ro
+deliver 33-36";
 
 // What is reported in the end.
-const REPORT: &str = "element 1 epoch 257 ce 40000001 sequence 5
+const REPORT: &str = "element 1 epoch 257 ce 40000001 sequence 6
 floor 257.2
 config 00001001 00000001 1 0000000A
 element 2 epoch 257 ce 40000001 sequence 5
@@ -27,7 +30,7 @@ config 00001001 00000001 1 00000014
 controller 1 round 1 epoch 257
 txn 257.1 completed
 controller 2 stopped
-sent 32
+sent 36
 ";
 
 // Whether a step is made at once, or has changed nothing where it wanted memory, and is made then.

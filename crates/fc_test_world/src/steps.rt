@@ -24,6 +24,11 @@ pub(crate) fn again(step: &Step) -> Result<Step, Fail>
             let name = name.copy().ok().ok_or("memory")?;
             Ok(Step::Begin(*number, name))
         }
+        Step::Plain(number, name) => {
+            let name = name.copy().ok().ok_or("memory")?;
+            Ok(Step::Plain(*number, name))
+        }
+        Step::Resend(number, id) => Ok(Step::Resend(*number, *id)),
         Step::GiveUp(number, txn) => Ok(Step::GiveUp(*number, *txn)),
         Step::Forget(number) => Ok(Step::Forget(*number)),
         _ => Err(Fail::from("a step of another kind")),
