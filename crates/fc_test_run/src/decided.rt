@@ -410,10 +410,7 @@ status 7";
 fn transactions_are_driven_to_their_end_where_answers_read(rt: HostRuntime) -> Result<(), Fail> {
     let alloc = rt.alloc();
     for cases in [DECIDED, FOUND, LOST] {
-        assert_eq!(rt;
-            first_wrong_under(alloc, WORDS, PLAN, cases, 65_536)?,
-            None
-        );
+        assert_eq!(rt; first_wrong_under(alloc, WORDS, PLAN, cases, 65_536)?, None);
     }
     Ok(())
 }

@@ -150,12 +150,7 @@ fn push_word(alloc: Global, text: &mut Vec<u8>, word: &str) -> Result<(), Fail> 
 }
 
 // What a line of a message tells: its name, a code, a value or a property; of a notice its place too.
-fn push_line(
-    alloc: Global,
-    text: &mut Vec<u8>,
-    line: &str,
-    has_place: bool,
-) -> Result<(), Fail> {
+fn push_line(alloc: Global, text: &mut Vec<u8>, line: &str, has_place: bool) -> Result<(), Fail> {
     let (word, rest) = cut(line.trim_start(), " ");
     match word {
         "code" | "full" | "ilv" | "reason" => push_word(alloc, text, rest),

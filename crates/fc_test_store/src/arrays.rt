@@ -88,7 +88,10 @@ fn a_full_array_is_changed(rt: HostRuntime) -> Result<(), Fail> {
     let value = changed(alloc, ty)?;
     for (subscript, number) in [(4, 4u32), (9, 8), (MANY - 1, 9)] {
         let found = second(alloc, ty, &value, subscript)?;
-        assert!(rt; found.as_slice() == number.to_be_bytes().as_slice(), "{subscript}");
+        assert!(rt;
+            found.as_slice() == number.to_be_bytes().as_slice(),
+            "{subscript}"
+        );
     }
     assert_eq!(rt; code(&second(alloc, ty, &value, 5)), Some(Code::NOT_FOUND));
     Ok(())

@@ -201,7 +201,15 @@ fn behind_a_long_key(alloc: Global) -> Result<Select, Memory> {
 fn a_long_key_stands_in_front_of_many_leaves(rt: HostRuntime) -> Result<(), Fail> {
     let alloc = rt.alloc();
     let wanted = around(alloc, (999, 0x0E), 0x0E, (0, 0x00))?;
-    assert!(rt; leave(alloc, &[behind_a_long_key(alloc)?], Mode::Continue, &wanted, 0)?);
+    assert!(rt;
+        leave(
+            alloc,
+            &[behind_a_long_key(alloc)?],
+            Mode::Continue,
+            &wanted,
+            0
+        )?
+    );
     Ok(())
 }
 
@@ -231,6 +239,9 @@ fn marked(alloc: Global) -> Result<Vec<u8>, Fail> {
 #[test]
 fn a_mark_around_them_stands(rt: HostRuntime) -> Result<(), Fail> {
     let seen = marked(rt.alloc())?;
-    assert_eq!(rt; seen.as_slice(), [0, 0, 0, 0, 0, 0, 0, 5, 0, 0, 0, 7].as_slice());
+    assert_eq!(rt;
+        seen.as_slice(),
+        [0, 0, 0, 0, 0, 0, 0, 5, 0, 0, 0, 7].as_slice()
+    );
     Ok(())
 }

@@ -48,10 +48,7 @@ fn change_all(alloc: Global, store: &mut Store) -> Result<(), Fail> {
 }
 
 // How many events are told, and of which instance the last one of a thousand.
-fn told(
-    store: &Store,
-    subscriptions: &mut Subscriptions,
-) -> Result<(usize, Option<u32>), Memory> {
+fn told(store: &Store, subscriptions: &mut Subscriptions) -> Result<(usize, Option<u32>), Memory> {
     let notices = subscriptions.reports(store)?;
     let instance = notices.get(999).map(|notice| notice.place.instance);
     Ok((notices.len(), instance))

@@ -279,8 +279,14 @@ impl Trial {
         let place = spot(self.alloc, word)?;
         match name {
             "map" => self.push_map(text, &place)?,
-            "get" => push_read(text, &bytes_at(self.alloc, &self.store, Purpose::Read, &place))?,
-            "look" => push_read(text, &bytes_at(self.alloc, &self.store, Purpose::Look, &place))?,
+            "get" => push_read(
+                text,
+                &bytes_at(self.alloc, &self.store, Purpose::Read, &place),
+            )?,
+            "look" => push_read(
+                text,
+                &bytes_at(self.alloc, &self.store, Purpose::Look, &place),
+            )?,
             "node" => self.push_node(text, &place)?,
             "whole" => self.push_whole(text, &place, words)?,
             _ => {

@@ -39,7 +39,11 @@ fn a_fence_counts_and_lets_greater_claims_pass(rt: HostRuntime) -> Result<(), Fa
         (0, 2, 258, Verdict::Again),
     ] {
         let corr = u64::from(word) * 4_294_967_296;
-        assert_eq!(rt; judged(sequence, number, corr, Some(word))?, wanted, "{sequence} {word}");
+        assert_eq!(rt;
+            judged(sequence, number, corr, Some(word))?,
+            wanted,
+            "{sequence} {word}"
+        );
     }
     Ok(())
 }
