@@ -1,10 +1,10 @@
-"""Stands between a control element and one forwarding element, and kills the control element as it is to complete a transaction there.
+"""Stands between a control element and forwarding elements, and kills the control element as it is to complete a transaction at any.
 
-Use: python3 examples/stopper.py PORT COMMAND..
+Use: python3 examples/stopper.py PORT[,PORT].. COMMAND..
 
-PORT is that of the forwarding element on this machine. COMMAND runs the control element; the word STOPPER in it is replaced by the address
-at which this stands. All that both send goes through, up to the first Config with a TRCOMP, which does not. It needs Python's standard library
-and forces.py beside it.
+Each PORT is that of a forwarding element on this machine. COMMAND runs the control element; the words STOPPER in it are replaced, in turn, by
+the addresses at which this stands for them. All that both sides send goes through, but for a Config with a TRCOMP. It needs Python's standard
+library and forces.py beside it.
 """
 import socket
 import subprocess
@@ -39,23 +39,28 @@ def hand_on(control, element):
 
 def stop(listener, port, process):
     """Serves one connection of the control element after the other, until it is to complete a transaction, and then kills it."""
-    while True:
-        control, _ = listener.accept()
-        with control, socket.create_connection(("127.0.0.1", port), timeout=60) as element:
-            threading.Thread(target=hand_back, args=(element, control), daemon=True).start()
-            if hand_on(control, element):
-                process.kill()
-                return
+    try:
+        while True:
+            control, _ = listener.accept()
+            with control, socket.create_connection(("127.0.0.1", port), timeout=60) as element:
+                threading.Thread(target=hand_back, args=(element, control), daemon=True).start()
+                if hand_on(control, element):
+                    process.kill()
+                    return
+    except OSError:
+        pass
 
 
 def main():
-    with socket.create_server(("127.0.0.1", 0)) as listener:
-        listener.settimeout(60)
-        address = "127.0.0.1:%d" % listener.getsockname()[1]
-        command = [address if word == "STOPPER" else word for word in sys.argv[2:]]
-        with subprocess.Popen(command) as process:
-            stop(listener, int(sys.argv[1]), process)
-    print("as it is to complete its transaction at the first element, by signal", -process.returncode)
+    ports = [int(port) for port in sys.argv[1].split(",")]
+    listeners = [socket.create_server(("127.0.0.1", 0)) for _ in ports]
+    addresses = ["127.0.0.1:%d" % listener.getsockname()[1] for listener in listeners]
+    command = [addresses.pop(0) if word == "STOPPER" else word for word in sys.argv[2:]]
+    with subprocess.Popen(command) as process:
+        for listener, port in zip(listeners, ports):
+            threading.Thread(target=stop, args=(listener, port, process), daemon=True).start()
+        process.wait(timeout=60)
+    print("as it is to complete its transaction, by signal", -process.returncode)
 
 
 if __name__ == "__main__":
