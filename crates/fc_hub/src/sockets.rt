@@ -1,6 +1,5 @@
 // The sockets of the machine, by readiness.
 
-use crate::arrivals::why_missed;
 use crate::wires::{Accepted, Dialled, Readiness, Socket, Transfer, Wires};
 use fc_base::{Memory, Trouble};
 use mio::event::Event;
@@ -8,7 +7,7 @@ use mio::net::{TcpListener, TcpStream};
 use mio::{Events, Interest, Poll, Token};
 use std::alloc::Global;
 use std::io;
-use std::io::{ErrorKind, Read, Write};
+use std::io::{Read, Write};
 use std::net::{Net, Shutdown, SocketAddr, ToSocketAddrs};
 use std::time::{Clock, Duration};
 
@@ -70,9 +69,7 @@ fn bound<R: Net>(rt: &R, address: &str) -> Option<TcpListener> {
 fn moved(answer: io::Result<usize>) -> Transfer {
     match answer {
         Ok(count) => Transfer::Moved(count),
-        Err(error) if error.kind() == ErrorKind::WouldBlock => Transfer::Later,
-        Err(error) if error.kind() == ErrorKind::Interrupted => Transfer::Again,
-        Err(_) => Transfer::Ended,
+        Err(error) => Transfer::missed(&error),
     }
 }
 
@@ -196,7 +193,7 @@ impl<R: Net + Clock + Drop> Wires for Sockets<R> {
                     Accepted::Lost
                 }
             }
-            Err(error) => why_missed(&error),
+            Err(error) => Accepted::missed(&error),
         }
     }
 

@@ -1,19 +1,26 @@
-//! Tests of connections and rounds: hubs in memory, hubs over TCP that listen and that dial, and numbers that a file keeps.
+//! Tests of connections and rounds: hubs in memory, hubs that listen and that dial over a network that is played and over the sockets of
+//! the machine, and numbers that a file keeps.
 #![tactic(auto)]
 
 #[cfg(test)]
-mod dialling;
+mod chance;
+#[cfg(test)]
+mod dials;
 #[cfg(test)]
 mod hearing;
 #[cfg(test)]
 mod hubs;
 #[cfg(test)]
-mod links;
+mod listens;
 #[cfg(test)]
 mod patience;
 #[cfg(test)]
+mod played;
+#[cfg(test)]
+mod playing;
+#[cfg(test)]
 mod rounds;
 #[cfg(test)]
-mod tcp;
+mod sockets;
 #[cfg(test)]
 mod wanted;
