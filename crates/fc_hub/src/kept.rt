@@ -29,7 +29,7 @@ impl Model for Kept {
 
 impl Kept {
     /// Nothing is kept.
-    pub fn new(alloc: Global) -> Self
+    pub(crate) fn new(alloc: Global) -> Self
         ensures { result ≡ [] }
     {
         Kept {
@@ -39,26 +39,26 @@ impl Kept {
     }
 
     /// What is kept.
-    pub fn rest(&self) -> &[u8]
+    pub(crate) fn rest(&self) -> &[u8]
         ensures { result.now ≡ self.now }
     {
         &self.bytes.as_slice()[self.gone..]
     }
 
     /// How many bytes are kept.
-    pub fn len(&self) -> usize
+    pub(crate) fn len(&self) -> usize
         ensures { result ≡ length self.now }
     {
         self.rest().len()
     }
 
     /// Whether nothing is kept.
-    pub fn is_empty(&self) -> bool {
+    pub(crate) fn is_empty(&self) -> bool {
         self.len() == 0
     }
 
     /// Keeps bytes behind the others. After an `Err` nothing has changed.
-    pub fn push(&mut self, bytes: &[u8]) -> Result<(), Memory>
+    pub(crate) fn push(&mut self, bytes: &[u8]) -> Result<(), Memory>
         ensures ok { OnOk result (self.new ≡ self.old ++ bytes.now) }
         ensures err { OnErr result (self.new ≡ self.old) }
     {
@@ -78,7 +78,7 @@ impl Kept {
     }
 
     /// So many bytes have gone from the front.
-    pub fn take(&mut self, count: usize)
+    pub(crate) fn take(&mut self, count: usize)
         requires { count ≤ length self.old }
         ensures { self.new ≡ drop count self.old }
     {
@@ -86,7 +86,7 @@ impl Kept {
     }
 
     /// Keeps nothing, and little room.
-    pub fn clear(&mut self)
+    pub(crate) fn clear(&mut self)
         ensures { self.new ≡ [] }
     {
         if self.bytes.capacity() > HELD {
