@@ -174,10 +174,12 @@ module _ (s : ElementState) (peer : ℕ) (m : Message) (selects : List Select) (
             ap (λ (t : Turn). t.outs) at.1 ∙ does.outs
             ∙ ap (λ ns. responses peer (reply m selects d.codes) ++ ns) (routed d.ledger.store.library (id_of s) m.source (ce_of (step s (Arrived peer m)).state) peer d.notices of);
         source = of;
-        over = λ n ns e. (s.clock,
-            ap (λ (t : ElementState). get t.associations (ce_of (step s (Arrived peer m)).state)) same
-            ∙ ap (λ who. get (renewed s.associations m.source peer s.clock) who) (sym (of n ns e))
-            ∙ heard_over s.associations m.source s.clock peer (is_associated s m) refl at.0);
+        over = λ n ns e. (
+          s.clock,
+          ap (λ (t : ElementState). get t.associations (ce_of (step s (Arrived peer m)).state)) same
+              ∙ ap (λ who. get (renewed s.associations m.source peer s.clock) who) (sym (of n ns e))
+              ∙ heard_over s.associations m.source s.clock peer (is_associated s m) refl at.0,
+        );
       }
 
 pub always_told : (id ce : ℕ) (library : List Class) (instances : List (ℕ × ℕ)) (runs : List (List ElIn)) (is : List ElIn) (peer : ℕ) (m : Message) (selects : List Select) (d : Did)
