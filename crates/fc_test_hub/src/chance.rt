@@ -205,6 +205,22 @@ fn ends(hub: &mut TcpHub<Played>, model: &mut Model) -> Result<(), Fail> {
     Err(Fail::from("some stand"))
 }
 
+// Something happens to four peers, and the hub tells an event.
+fn goes_on(
+    alloc: Global,
+    hub: &mut TcpHub<Played>,
+    model: &mut Model,
+    chance: &mut Chance,
+) -> Result<(), Fail> {
+    for _ in 0..4u32 {
+        happens(alloc, hub, model, chance)?;
+    }
+    hub.wires().now = hub.wires().now.saturating_add(chance.below(300));
+    let event = hub.next()?;
+    model.admits(&event, hub.wires())?;
+    sure(is_right(hub.wires()), "it takes what it was sent")
+}
+
 // A play of so many steps, and how many connections it brought.
 fn is_played(alloc: Global, seed: u64, steps: u32) -> Result<usize, Fail> {
     let mut chance = Chance(seed);
@@ -219,13 +235,7 @@ fn is_played(alloc: Global, seed: u64, steps: u32) -> Result<usize, Fail> {
         if step < CONNECTIONS {
             hub.wires().arriving = hub.wires().arriving.saturating_add(1);
         }
-        for _ in 0..4u32 {
-            happens(alloc, &mut hub, &mut model, &mut chance)?;
-        }
-        hub.wires().now = hub.wires().now.saturating_add(chance.below(300));
-        let event = hub.next()?;
-        model.admits(&event, hub.wires())?;
-        sure(is_right(hub.wires()), "it takes what it was sent")?;
+        goes_on(alloc, &mut hub, &mut model, &mut chance)?;
     }
     ends(&mut hub, &mut model)?;
     Ok(model.peers.len())

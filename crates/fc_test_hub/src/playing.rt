@@ -137,26 +137,36 @@ fn are_bytes(hub: &mut TcpHub<Played>, peer: u32, count: usize) -> Result<bool, 
     }
 }
 
+// Sends so many bytes to a peer, from a place of all that it is sent.
+fn is_sent(
+    alloc: Global,
+    hub: &mut TcpHub<Played>,
+    peer: u32,
+    place: u64,
+    count: u64,
+) -> Result<bool, Trouble> {
+    let bytes = bytes_from(alloc, place, count)?;
+    Ok(hub.send(peer, bytes.as_slice()).is_ok())
+}
+
+// Whether the next event that is no moment is this one.
+fn is_next(hub: &mut TcpHub<Played>, wanted: &HubEvent) -> Result<bool, Trouble> {
+    Ok(event(hub)? == *wanted)
+}
+
 // Does a step at the hub, and tells whether it comes to what it is to.
 fn is_done(alloc: Global, hub: &mut TcpHub<Played>, step: Step) -> Result<bool, Trouble> {
     match step {
-        Step::Send(peer, place, count) => {
-            let bytes = bytes_from(alloc, place, count)?;
-            hub.send(peer, bytes.as_slice())?;
-            Ok(true)
-        }
-        Step::Close(peer) => {
-            hub.close(peer)?;
-            Ok(true)
-        }
+        Step::Send(peer, place, count) => is_sent(alloc, hub, peer, place, count),
+        Step::Close(peer) => Ok(hub.close(peer).is_ok()),
         Step::Finish => {
             hub.finish();
             Ok(true)
         }
         Step::Opened(peer) => all_open(hub, peer, peer),
         Step::AllOpened(first, last) => all_open(hub, first, last),
-        Step::Closed(peer) => Ok(event(hub)? == HubEvent::Closed(peer)),
-        Step::Over => Ok(event(hub)? == HubEvent::Over),
+        Step::Closed(peer) => is_next(hub, &HubEvent::Closed(peer)),
+        Step::Over => is_next(hub, &HubEvent::Over),
         Step::Bytes(peer, count) => are_bytes(hub, peer, count),
         Step::Moments(count) => are_moments(hub, count),
         Step::Fails => Ok(hub.next() == Err(Trouble::Failed)),

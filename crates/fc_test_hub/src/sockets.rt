@@ -5,7 +5,7 @@ use fc_base::{List, Text, Trouble};
 use fc_hub::{Accepted, Hub, HubEvent, Sockets, TcpHub, Transfer};
 use std::alloc::Global;
 use std::io;
-use std::io::Write;
+use std::io::{Read, Write};
 use std::net::{Net, OpenListener, SocketAddr, TcpListener, TcpStream};
 use std::test::Fail;
 
@@ -17,6 +17,9 @@ const HEARTBEAT: [u8; 24] = [
 const ANSWER: [u8; 24] = [
     0x10, 0x0f, 0, 6, 0, 0, 0, 2, 0x40, 0, 0, 1, 0, 0, 0, 0, 0, 0, 0, 0, 0, 0, 0, 0,
 ];
+
+// A hub over the sockets of this machine.
+type Over<'a> = TcpHub<Sockets<&'a HostRuntime>>;
 
 // An address at which nobody listens.
 fn free_address<R: Net>(rt: &R) -> Result<SocketAddr, Fail> {
@@ -36,27 +39,58 @@ fn listening(
     Ok(hub)
 }
 
-// Sends much to the second peer, which never reads, until that is not kept any more.
-fn is_greedy<H: Hub>(alloc: Global, hub: &mut H) -> Result<(), Fail> {
-    let much = Vec::from_elem(alloc, 7u8, 4_194_304)?;
+// The first peer says a part of a frame, and stays.
+fn says_a_part<H: Hub, S: Write>(hub: &mut H, slow: &mut S) -> Result<(), Fail> {
+    slow.write_all(&HEARTBEAT[..9])?;
+    hears(hub, HubEvent::Opened(1))?;
+    hears_bytes(hub, 1, &HEARTBEAT[..9])
+}
+
+// The second peer never reads what it is sent, until no more can be kept.
+fn never_reads(rt: &HostRuntime, hub: &mut Over<'_>, address: SocketAddr) -> Result<(), Fail> {
+    let _greedy = TcpStream::connect(rt, address)?;
+    hears(hub, HubEvent::Opened(2))?;
+    let much = Vec::from_elem(rt.alloc(), 7u8, 4_194_304)?;
     for _ in 0..8u32 {
         hub.send(2, much.as_slice())?;
     }
     hears(hub, HubEvent::Closed(2))
 }
 
-// The third peer leaves without having read what it was sent, which resets its connection.
-fn is_reset<H: Hub, S: Write>(hub: &mut H, mut rude: S) -> Result<(), Fail>
-where
-    S: Drop,
-{
+// A peer is sent something, and speaks.
+fn speaks<H: Hub, S: Write>(hub: &mut H, rude: &mut S) -> Result<(), Fail> {
+    hears(hub, HubEvent::Opened(3))?;
     hub.send(3, &ANSWER)?;
-    rude.write_all(&HEARTBEAT)?;
-    hears_bytes(hub, 3, &HEARTBEAT)?;
-    rude.write_all(&HEARTBEAT)?;
-    hears_bytes(hub, 3, &HEARTBEAT)?;
+    for _ in 0..2u32 {
+        rude.write_all(&HEARTBEAT)?;
+        hears_bytes(hub, 3, &HEARTBEAT)?;
+    }
+    Ok(())
+}
+
+// The third peer leaves without having read what it was sent, which resets its connection.
+fn is_reset(rt: &HostRuntime, hub: &mut Over<'_>, address: SocketAddr) -> Result<(), Fail> {
+    let mut rude = TcpStream::connect(rt, address)?;
+    speaks(hub, &mut rude)?;
     drop(rude);
     hears(hub, HubEvent::Closed(3))
+}
+
+// The first peer says the rest, and is answered when the hub finishes.
+fn says_the_rest<S: Read + Write>(hub: &mut Over<'_>, slow: &mut S) -> Result<(), Fail> {
+    slow.write_all(&HEARTBEAT[9..])?;
+    hears_bytes(hub, 1, &HEARTBEAT[9..])?;
+    hub.send(1, &ANSWER)?;
+    hub.finish();
+    brings(slow, ANSWER)
+}
+
+// The first peer is closed, and closes too.
+fn is_closed<S: Read + Drop>(hub: &mut Over<'_>, mut slow: S) -> Result<(), Fail> {
+    hub.close(1)?;
+    ends(&mut slow)?;
+    drop(slow);
+    hears(hub, HubEvent::Over)
 }
 
 #[test]
@@ -64,29 +98,11 @@ fn no_peer_holds_another(rt: HostRuntime) -> Result<(), Fail> {
     let address = free_address(&rt)?;
     let mut hub = listening(&rt, address, 3)?;
     let mut slow = TcpStream::connect(&rt, address)?;
-    slow.write_all(&HEARTBEAT[..9])?;
-    hears(&mut hub, HubEvent::Opened(1))?;
-    hears_bytes(&mut hub, 1, &HEARTBEAT[..9])?;
-    let _greedy = TcpStream::connect(&rt, address)?;
-    hears(&mut hub, HubEvent::Opened(2))?;
-    is_greedy(rt.alloc(), &mut hub)?;
-    let rude = TcpStream::connect(&rt, address)?;
-    hears(&mut hub, HubEvent::Opened(3))?;
-    is_reset(&mut hub, rude)?;
-    slow.write_all(&HEARTBEAT[9..])?;
-    hears_bytes(&mut hub, 1, &HEARTBEAT[9..])?;
-    hub.send(1, &ANSWER)?;
-    hub.finish();
-    brings(&mut slow, ANSWER)?;
-    hub.close(1)?;
-    ends(&mut slow)?;
-    drop(slow);
-    let event = hub.next()?;
-    assert!(rt;
-        matches!(event, HubEvent::Moment(_) | HubEvent::Over),
-        "{event:?}"
-    );
-    hears(&mut hub, HubEvent::Over)
+    says_a_part(&mut hub, &mut slow)?;
+    never_reads(&rt, &mut hub, address)?;
+    is_reset(&rt, &mut hub, address)?;
+    says_the_rest(&mut hub, &mut slow)?;
+    is_closed(&mut hub, slow)
 }
 
 // Of sixty-six silent peers the first two give their places to the last two.
@@ -127,25 +143,40 @@ fn dialling<'a>(
     Ok(TcpHub::dial(rt.alloc(), rt, list, 3)?)
 }
 
+// The second element speaks.
+fn is_heard<H: Hub, S: Write>(hub: &mut H, other: &mut S) -> Result<(), Fail> {
+    other.write_all(&ANSWER)?;
+    hears_bytes(hub, 3, &ANSWER)
+}
+
+// The first element is sent something and closed: it gets that, and then the end.
+fn is_sent_and_closed<H: Hub, S: Read>(hub: &mut H, one: &mut S) -> Result<(), Fail> {
+    hub.send(1, &HEARTBEAT)?;
+    hub.close(1)?;
+    brings(one, HEARTBEAT)?;
+    ends(one)
+}
+
+// Two elements of a hub are there, and go.
+fn are_served<L: OpenListener>(hub: &mut Over<'_>, first: &L, third: &L) -> Result<(), Fail>
+where
+    L::Stream: Read + Write,
+{
+    hears(hub, HubEvent::Opened(1))?;
+    hears(hub, HubEvent::Opened(3))?;
+    let (mut one, _) = first.accept()?;
+    let (mut other, _) = third.accept()?;
+    is_heard(hub, &mut other)?;
+    is_sent_and_closed(hub, &mut one)
+}
+
 #[test]
 fn elements_are_dialled_side_by_side(rt: HostRuntime) -> Result<(), Fail> {
     let first = TcpListener::bind(&rt, "127.0.0.1:0")?;
     let third = TcpListener::bind(&rt, "127.0.0.1:0")?;
     let addresses = [first.local_addr()?, free_address(&rt)?, third.local_addr()?];
     let mut hub = dialling(&rt, addresses)?;
-    assert_eq!(rt; moment(&mut hub)?, 0);
-    hears(&mut hub, HubEvent::Opened(1))?;
-    hears(&mut hub, HubEvent::Opened(3))?;
-    let (mut one, _) = first.accept()?;
-    let (mut other, _) = third.accept()?;
-    other.write_all(&ANSWER)?;
-    hears_bytes(&mut hub, 3, &ANSWER)?;
-    hub.send(1, &HEARTBEAT)?;
-    hub.close(1)?;
-    brings(&mut one, HEARTBEAT)?;
-    ends(&mut one)?;
-    drop(one);
-    drop(other);
+    are_served(&mut hub, &first, &third)?;
     hears(&mut hub, HubEvent::Closed(3))?;
     hears(&mut hub, HubEvent::Over)
 }
