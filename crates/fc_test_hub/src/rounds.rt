@@ -141,6 +141,16 @@ fn fails_and_stays(rt: &HostRuntime, path: &str, text: &str) -> Result<(), Fail>
     equal(&fs::read_to_string(rt, path)?.as_str(), &text)
 }
 
+// A file of two names is a fault, and one of one name again goes on.
+fn has_one_name(rt: &HostRuntime, path: &str) -> Result<(), Fail> {
+    let other = format!(in rt.alloc(); "{path}.other")?;
+    fs::write(rt, path, "3\n")?;
+    fs::hard_link(rt, path, other.as_str())?;
+    equal(&next_in(rt, path)?, &Err(Trouble::Failed))?;
+    fs::remove_file(rt, other.as_str())?;
+    gives_another(rt, path, 4)
+}
+
 #[test]
 fn a_file_that_holds_no_number_is_a_fault(rt: HostRuntime) -> Result<(), Fail> {
     let path = free_path(&rt, "none")?;
@@ -155,12 +165,15 @@ fn a_file_that_holds_no_number_is_a_fault(rt: HostRuntime) -> Result<(), Fail> {
         "1\n\n",
         "1 \n",
         "4294967296\n",
+        "01\n",
+        "00\n",
         "00000000000000001\n",
     ] {
         fails_and_stays(&rt, path, text)?;
     }
     let below = format!(in rt.alloc(); "{path}/below")?;
     equal(&next_in(&rt, below.as_str())?, &Err(Trouble::Failed))?;
+    has_one_name(&rt, path)?;
     passes_over_what_lies_beside(&rt, path, "")?;
     clear(&rt, path)
 }
