@@ -72,7 +72,7 @@ below n m k h e = grind (arith, nat_tests, h, e)
 padded_within : (v w : List ℕ) → length v ≤ length w → length (v ++ padding (length v)) ≤ length (w ++ padding (length w))
 unfolding padding
 padded_within v w h =
-    omega (arith, h, length-append v (padding (length v)), length-append w (padding (length w)), length-replicate ((4 - length v % 4) % 4) 0, length-replicate ((4 - length w % 4) % 4) 0)
+    omega (arith, h, length-append v (padding (length v)), length-append w (padding (length w)), length-replicate {A = ℕ} ((4 - length v % 4) % 4) 0, length-replicate {A = ℕ} ((4 - length w % 4) % 4) 0)
 
 tlv_within : (kind : ℕ) (v w : List ℕ) → length v ≤ length w → length (tlv_bytes kind v) ≤ length (tlv_bytes kind w)
 unfolding tlv_bytes

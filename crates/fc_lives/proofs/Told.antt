@@ -74,15 +74,15 @@ next_by false false true d e false life h = absurd cc
 next_by false false false d e f life h = absurd cc
 
 -- where there are notices, the Config was of the control element that may configure the element
-IsOfCe : TransactionState → Message → Did → Type 0
+abbrev IsOfCe : TransactionState → Message → Did → Type 0
 IsOfCe t m d = (n : Notice) (ns : List Notice) → d.notices ≡ n ∷ ns → m.source ≡ t.ce
 
-cons_nil : {X : Type 0} {x : X} {xs : List X} {R : Type 0} → ([] {A = X}) ≡ x ∷ xs → R
+cons_nil : {X : Type 0} {x : X} {xs : List X} {R : Type 0} → x ∷ xs ≡ [] → R
 cons_nil e = absurd cc
 
 unclaimed_of : (t : TransactionState) (m : Message) (selects : List Select) (b : Bool) → (m.source == t.ce) ≡ b → IsOfCe t m (cond (not b) (phases.all_get t.ledger selects read_only) (if m.flags.at then phases.all_get t.ledger selects not_supported else executes t.id t.ledger m selects))
 unclaimed_of t m selects true e = λ n ns _. eqb-true m.source t.ce e
-unclaimed_of t m selects false e = λ n ns h. cons_nil h
+unclaimed_of t m selects false e = λ n ns h. cons_nil (sym h)
 
 module _ (t : TransactionState) (peer : ℕ) (m : Message) (selects : List Select) (d : Did) where
   of_ce : IsMasters t → (a : Asked) (v : Verdict) → judged t m a ≡ v → did_by t m selects a v ≡ Some d → IsOfCe t m d
@@ -131,14 +131,14 @@ module _ (s : ElementState) (peer : ℕ) (m : Message) (selects : List Select) (
 
   order_done : (a b e f : Bool) → is_associated s m ≡ a → taken_if (a && (b && (e && not f))) (record { peer = peer; message = m; selects = selects }) ≡ c ∷ []
       → IsDone (cond a (cond (not b) (turn s []) (cond (not e) (all_get s peer m selects 4) (cond f (all_get s peer m selects 18) done))) (turn s []))
-  order_done false b e f h k = cons_nil k
-  order_done true false e f h k = cons_nil k
-  order_done true true false f h k = cons_nil k
-  order_done true true true true h k = cons_nil k
+  order_done false b e f h k = cons_nil (sym k)
+  order_done true false e f h k = cons_nil (sym k)
+  order_done true true false f h k = cons_nil (sym k)
+  order_done true true true true h k = cons_nil (sym k)
   order_done true true true false h k = (h, refl)
 
   message_done : (b : Bool) → cond b (taken_body s peer m (body.Config selects)) [] ≡ c ∷ [] → IsDone (cond b (on_body s peer m (body.Config selects)) (turn s []))
-  message_done false k = cons_nil k
+  message_done false k = cons_nil (sym k)
   message_done true k = order_done (is_associated s m) (results_fit selects && message_fits m) (is_own s m) (m.flags.em == 0) refl k
 
   step_done : m.body ≡ body.Config selects → cond (is_ce m.source) (taken_body s peer m m.body) [] ≡ c ∷ [] → IsDone (step s (Arrived peer m))
