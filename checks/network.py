@@ -151,6 +151,7 @@ class Relay:
         if side is None:
             control.close()
             return
+        control.settimeout(PATIENCE)
         visit = Visit(place, control, side)
         self.visits.append((place, visit.parts))
         self.open.append(visit)

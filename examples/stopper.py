@@ -59,7 +59,10 @@ def main():
     with subprocess.Popen(command) as process:
         for listener, port in zip(listeners, ports):
             threading.Thread(target=stop, args=(listener, port, process), daemon=True).start()
-        process.wait(timeout=60)
+        try:
+            process.wait(timeout=60)
+        finally:
+            process.kill()
     print("as it is to complete its transaction, by signal", -process.returncode)
 
 
