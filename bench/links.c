@@ -294,10 +294,8 @@ static void trips(int port, int count) {
 static void mute(int port, int count, int seconds) {
     static int fds[MOST];
     static unsigned char block[24 * 512];
-    int small = 4096;
     for (int i = 0; i < count; i++) {
         fds[i] = associated(port, i);
-        setsockopt(fds[i], SOL_SOCKET, SO_RCVBUF, &small, sizeof small);
         unblocked(fds[i]);
     }
     uint64_t end = now() + (uint64_t)seconds * 1000000000u;
